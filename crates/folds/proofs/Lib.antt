@@ -1,0 +1,5 @@
+pub mod Tests
+pub mod Changed
+pub mod Laid
+pub mod Rows
+pub mod First

@@ -1,0 +1,6 @@
+pub mod Insertion
+pub mod Pulling
+pub mod Places
+pub mod Theorem
+pub mod Locality
+pub mod Example
