@@ -1,8 +1,9 @@
 -- Sums of signed numbers: joined lists, one turn of a loop, and their range.
 use mathlib.Core.Path.{_≡_, refl, sym, _∙_, ap}
+use mathlib.Core.Logic.{⊎-elim}
 use mathlib.Core.List.{List, [], _∷_, _++_}
 use Prim.Native.Nat.{ℕ, zero, suc, _+_, _*_, _≤_, _<_, zero-le}
-use native.Mathlib.Nat.{suc-mul, mul-le-mul-right}
+use native.Mathlib.Nat.{suc-mul, mul-le-mul-right, not-suc-le-zero, eq-or-lt-of-le, le-of-suc-le-suc}
 use native.Mathlib.Numerals.{add-one}
 use native.Mathlib.Omega.{arith}
 use lib.ListN.{length, take, getD, length-take}
@@ -58,3 +59,15 @@ pub in-total-by : (g : ℕ → ℕ) (f : ℕ → ℤ) (n : ℕ) → ((i : ℕ) �
 unfolding foldTo
 in-total-by g f zero h = record { within = zero-le }
 in-total-by g f (suc n) h = in-add (in-total-by g f n (λ i l. h i (omega arith))) (h n (omega arith))
+
+-- each term at most B
+pub sum-most : (B : ℕ) (f : ℕ → ℕ) (n : ℕ) → ((i : ℕ) → i < n → f i ≤ B) → sumTo f n ≤ n * B
+unfolding foldTo
+sum-most B f zero h = zero-le
+sum-most B f (suc n) h = omega (arith, sum-most B f n (λ i l. h i (omega arith)), h n (omega arith), suc-mul n B)
+
+-- one of the terms
+pub sum-has : (f : ℕ → ℕ) (n i : ℕ) → i < n → f i ≤ sumTo f n
+unfolding foldTo
+sum-has f zero i l = absurd (not-suc-le-zero l)
+sum-has f (suc n) i l = ⊎-elim (λ q. rw q (omega arith)) (λ q. omega (arith, sum-has f n i q)) (eq-or-lt-of-le (le-of-suc-le-suc l))

@@ -1,0 +1,44 @@
+-- The writes one after the other are the table of fields.
+use mathlib.Core.Path.{_≡_, refl, sym, ap, _∙_}
+use mir.Syntax.{w64}
+use mir.ValLaws.{toZ-ofZ}
+use borrow.Author.Needs.{needs}
+use Rattle.book.proofs.positions.put_dealt.Statement.{statement}
+use Rattle.book.proofs.positions.put_dealt.Tie as tie
+
+add-write-i64 : tie.Need-add-write-i64
+add-write-i64 c = search needs
+
+write-i64-requires : tie.Need-write-i64-requires
+write-i64-requires c κs = search needs
+
+add-write-u32 : tie.Need-add-write-u32
+add-write-u32 c = search needs
+
+write-u32-requires : tie.Need-write-u32-requires
+write-u32-requires c κs = search needs
+
+add-write-u32-2 : tie.Need-add-write-u32-2
+add-write-u32-2 c = search needs
+
+write-u32-requires-2 : tie.Need-write-u32-requires-2
+write-u32-requires-2 c κs = search needs
+
+same-length : tie.Need-same-length
+same-length c = search needs
+
+returns : tie.Need-returns
+returns c = rw (c .before .before .write-u322 .ensures, c .before .before .before .before .before .before .write-u32 .ensures, c .before .before .before .before .before .before .before .before .before .before .write-i64 .ensures, toZ-ofZ w64 (c .before .before .before .before .before .before .before .before .before .before .before .before .before .before .args .cash .0) (record { sfits = search needs }))
+
+pub put-dealt-spec : {M : Type 1} → statement M
+put-dealt-spec =
+    tie.close
+    (tie.spec
+    add-write-i64
+    write-i64-requires
+    add-write-u32
+    write-u32-requires
+    add-write-u32-2
+    write-u32-requires-2
+    same-length
+    returns)

@@ -1,0 +1,10 @@
+pub mod Units
+pub mod Ranges
+pub mod Members
+pub mod Money
+pub mod Securities
+pub mod Margin
+pub mod Profit
+pub mod Fee
+pub mod Night
+pub mod Articles
