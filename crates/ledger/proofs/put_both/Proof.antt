@@ -1,0 +1,41 @@
+-- By the outcome, one account after the other.
+use mathlib.Core.Path.{_≡_, refl, sym, ap, ap₂, _∙_}
+use mathlib.Core.List.{List}
+use Prim.Native.Nat.{ℕ}
+use Rattle.book.specs.Accounts.{place, accountAt, putAccount}
+use borrow.Author.Needs.{needs}
+use Rattle.ledger.proofs.put_both.Statement.{statement}
+use Rattle.ledger.proofs.put_both.Tie as tie
+
+enum-known-posted : tie.Need-enum-known-posted
+enum-known-posted c = search needs
+
+enum-known-posted-2 : tie.Need-enum-known-posted-2
+enum-known-posted-2 c = search needs
+
+put-account-requires : tie.Need-put-account-requires
+put-account-requires c κs = search needs
+
+put-account-requires-2 : tie.Need-put-account-requires-2
+put-account-requires-2 c κs = search needs
+
+returns : tie.Need-returns
+returns c = search needs
+
+same-length : tie.Need-same-length
+same-length c = search needs
+
+returns-2 : tie.Need-returns-2
+returns-2 c = rw (c .before .before .before .before .before .before .before .before .before .before .before .posted2 .given .1) (refl, c .before .before .put-account2 .ensures ∙ ap (λ (t : List ℕ). putAccount (c .before .before .before .before .before .before .before .before .before .before .before .before .before .before .args .h) t (c .before .before .before .before .before .before .before .before .before .before .before .before .before .before .args .q) (c .before .before .before .before .before .before .before .before .before .before .before .posted2 .given .0 .0 .second)) (c .before .before .before .before .before .before .put-account .ensures))
+
+pub put-both-spec : {M : Type 1} → statement M
+put-both-spec =
+    tie.close
+    (tie.spec
+    enum-known-posted
+    enum-known-posted-2
+    put-account-requires
+    put-account-requires-2
+    returns
+    same-length
+    returns-2)

@@ -1,0 +1,52 @@
+-- Each rule by what it ensures.
+use mathlib.Core.Path.{_≡_, refl, sym, ap, ap₂, _∙_}
+use Rattle.posting.specs.Postings.{tradeAnswer}
+use borrow.Author.Needs.{needs}
+use Rattle.posting.proofs.postings.trade_answer.Statement.{statement}
+use Rattle.posting.proofs.postings.trade_answer.Tie as tie
+
+lots-answer-requires : tie.Need-lots-answer-requires
+lots-answer-requires c κs = search needs
+
+barred-requires : tie.Need-barred-requires
+barred-requires c κs = search needs
+
+first-requires : tie.Need-first-requires
+first-requires c κs = search needs
+
+barred-requires-2 : tie.Need-barred-requires-2
+barred-requires-2 c κs = search needs
+
+first-requires-2 : tie.Need-first-requires-2
+first-requires-2 c κs = search needs
+
+full-requires : tie.Need-full-requires
+full-requires c κs = search needs
+
+full-requires-2 : tie.Need-full-requires-2
+full-requires-2 c κs = search needs
+
+first-requires-3 : tie.Need-first-requires-3
+first-requires-3 c κs = search needs
+
+first-requires-4 : tie.Need-first-requires-4
+first-requires-4 c κs = search needs
+
+returns : tie.Need-returns
+unfolding tradeAnswer
+returns c = rw (c .first4 .ensures, c .before .first3 .ensures, c .before .before .before .before .first2 .ensures, c .before .before .before .before .before .before .first .ensures, c .before .before .before .before .before .before .before .before .lots-answer .ensures, c .before .before .before .before .before .before .before .barred .ensures, c .before .before .before .before .before .barred2 .ensures, c .before .before .before .full .ensures, c .before .before .full2 .ensures)
+
+pub trade-answer-spec : {M : Type 1} → statement M
+trade-answer-spec =
+    tie.close
+    (tie.spec
+    lots-answer-requires
+    barred-requires
+    first-requires
+    barred-requires-2
+    first-requires-2
+    full-requires
+    full-requires-2
+    first-requires-3
+    first-requires-4
+    returns)

@@ -1,0 +1,5 @@
+pub mod Records
+pub mod Fills
+pub mod Postings
+pub mod Answers
+pub mod Ranges

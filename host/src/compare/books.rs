@@ -1,0 +1,380 @@
+//! Books to check: valid ones, and the same with something done to them.
+
+use std::ops::RangeInclusive;
+
+use second::bounds;
+use second::generate::books::{book, shape, Hour, Temper};
+use second::generate::damage::{noise, Damage};
+use second::generate::random::Random;
+use second::layout::{account, contents, contract, head, position, Shape};
+use second::position::{Position, Side, SideLots};
+use second::units::{Cash, Fen, Lots};
+use second::validity::{most_cash, most_moved, most_traded};
+use second::Book;
+
+/// Bytes to check, valid or not, and what was done to make them.
+pub struct Case {
+    pub name: String,
+    pub bytes: Vec<u8>,
+}
+
+/// Damage that a book alone can take; the others are of a day's records.
+const DAMAGE: [Damage; 10] = [
+    Damage::BitFlips,
+    Damage::Cut,
+    Damage::ExtraBytes,
+    Damage::WrongHead,
+    Damage::WrongTotal,
+    Damage::WrongContents,
+    Damage::Unbalanced,
+    Damage::Misstated,
+    Damage::BeyondBound,
+    Damage::Noise,
+];
+
+/// A valid book of a seed.
+pub fn valid(random: &mut Random) -> Book {
+    let shape = shape(random);
+    let temper = *random.pick(&[Temper::Calm, Temper::Tight, Temper::Extreme]);
+    let hour = *random.pick(&[Hour::Opening, Hour::MidDay, Hour::MidDay]);
+    book(random, shape, temper, hour)
+}
+
+/// The books of a seed: a valid one, and others made of it.
+pub fn cases(seed: u64) -> Vec<Case> {
+    let mut random = Random::new(seed ^ 0x62_6f_6f_6b);
+    let book = valid(&mut random);
+    let bytes = book.encode();
+    let mut cases = vec![Case {
+        name: "valid".into(),
+        bytes: bytes.clone(),
+    }];
+    let fields = fields(&book);
+    for _ in 0..4 {
+        let field = random.pick(&fields).clone();
+        let value = *random.pick(&field.values());
+        cases.push(field.case(&bytes, value));
+    }
+    for _ in 0..2 {
+        cases.push(lots_at_a_bound(&mut random, &book));
+    }
+    cases.push(sums_at_a_bound(&mut random, &book));
+    for _ in 0..3 {
+        cases.push(damaged(&mut random, &book, &bytes));
+    }
+    cases.push(any_bytes(&mut random));
+    cases
+}
+
+/// Hands over every field of a book at and beside each of its bounds, the
+/// others as they are.
+pub fn every_field(book: &Book, mut each: impl FnMut(Case)) {
+    let bytes = book.encode();
+    for field in fields(book) {
+        for value in field.values() {
+            each(field.case(&bytes, value));
+        }
+    }
+}
+
+/// A number in a book, and the bounds it has where all others stay.
+#[derive(Clone)]
+struct Field {
+    name: &'static str,
+    at: usize,
+    width: usize,
+    range: RangeInclusive<i128>,
+}
+
+impl Field {
+    fn values(&self) -> [i128; 6] {
+        let (low, high) = (*self.range.start(), *self.range.end());
+        [low - 1, low, low + 1, high - 1, high, high + 1]
+    }
+
+    /// Stores the value's low bytes.
+    fn case(&self, bytes: &[u8], value: i128) -> Case {
+        let mut bytes = bytes.to_vec();
+        let value_bytes = value.to_le_bytes();
+        bytes[self.at..self.at + self.width].copy_from_slice(&value_bytes[..self.width]);
+        Case {
+            name: format!("{} {value} at byte {}", self.name, self.at),
+            bytes,
+        }
+    }
+}
+
+/// All fields of a book.
+fn fields(book: &Book) -> Vec<Field> {
+    let shape = book.shape();
+    let mut fields = Fields(Vec::new());
+    fields.front(shape);
+    for index in 0..shape.contracts {
+        fields.contract(shape.contract(index).start);
+    }
+    for member in 0..shape.members {
+        fields.account(shape.account(member).start, book, member);
+        for contract in 0..shape.contracts {
+            fields.position(
+                shape.position(member, contract).start,
+                book,
+                member,
+                contract,
+            );
+        }
+    }
+    fields.0
+}
+
+struct Fields(Vec<Field>);
+
+impl Fields {
+    fn add(&mut self, name: &'static str, at: usize, width: usize, range: RangeInclusive<i128>) {
+        self.0.push(Field {
+            name,
+            at,
+            width,
+            range,
+        });
+    }
+
+    fn exact(&mut self, name: &'static str, at: usize, width: usize, value: usize) {
+        self.add(name, at, width, value as i128..=value as i128);
+    }
+
+    fn front(&mut self, shape: Shape) {
+        self.add("members", head::MEMBERS, 2, 1..=32);
+        self.add("contracts", head::CONTRACTS, 2, 1..=32);
+        self.exact("total", head::TOTAL, 4, shape.total());
+        self.add("total", head::TOTAL, 4, 32..=52_000);
+        for (entry, section) in shape.sections().iter().enumerate() {
+            let at = head::SIZE + entry * contents::SIZE;
+            self.exact("section number", at + contents::NUMBER, 2, entry + 1);
+            self.exact("row size", at + contents::ROW_SIZE, 2, section.row_size);
+            self.exact("offset", at + contents::OFFSET, 4, section.offset);
+        }
+    }
+
+    fn contract(&mut self, row: usize) {
+        let price = wide(bounds::PRICE);
+        self.add("last price", row + contract::LAST_PRICE, 4, price);
+        let multiplier = wide(bounds::MULTIPLIER);
+        self.add("multiplier", row + contract::MULTIPLIER, 4, multiplier);
+        let rate = wide(bounds::MARGIN_RATE);
+        self.add("margin rate", row + contract::MARGIN_RATE, 4, rate);
+        self.add("trade fee", row + contract::TRADE_FEE, 4, bounds::FEE);
+        self.add("delivery fee", row + contract::DELIVERY_FEE, 4, bounds::FEE);
+        self.exact("contract's zero", row + contract::ZERO, 4, 0);
+    }
+
+    fn account(&mut self, row: usize, book: &Book, member: usize) {
+        let moved = 0..=most_moved(book.accounts[member].accepted).0;
+        self.add("kind", row + account::KIND, 4, 1..=2);
+        self.add(
+            "accepted",
+            row + account::ACCEPTED,
+            4,
+            wide(bounds::ACCEPTED),
+        );
+        self.add("reserve", row + account::RESERVE, 8, bounds::RESERVE);
+        self.add("margin", row + account::MARGIN, 8, bounds::MARGIN);
+        self.add("usable", row + account::USABLE, 8, bounds::USABLE);
+        self.add(
+            "market value",
+            row + account::MARKET_VALUE,
+            8,
+            bounds::MARKET_VALUE,
+        );
+        self.add(
+            "discount",
+            row + account::DISCOUNT,
+            8,
+            wide(bounds::DISCOUNT),
+        );
+        self.add("deposits", row + account::DEPOSITS, 8, moved.clone());
+        self.add("withdrawals", row + account::WITHDRAWALS, 8, moved);
+    }
+
+    fn position(&mut self, row: usize, book: &Book, member: usize, contract: usize) {
+        let position = book.position(member, contract);
+        for side in Side::BOTH {
+            self.side(row, side, &position[side]);
+        }
+        let cash = most_cash(position.traded).0;
+        self.add("cash sum", row + position::CASH, 8, -cash..=cash);
+        let traded: i64 = book
+            .positions_of(member)
+            .iter()
+            .map(|row| row.traded.0)
+            .sum();
+        let left = most_traded(book.accounts[member].accepted).0 - traded + position.traded.0;
+        self.add("traded", row + position::TRADED, 4, 0..=i128::from(left));
+        self.exact("position's zero", row + position::ZERO, 4, 0);
+    }
+
+    fn side(&mut self, row: usize, side: Side, lots: &SideLots) {
+        let at = |field: [usize; 2]| row + field[side as usize];
+        let held = i128::from(lots.held().0);
+        let old = i128::from(lots.old().0);
+        let most = i128::from(*bounds::HELD.end());
+        self.add("opening", at(position::OPENING), 4, 0..=most);
+        let opening = i128::from(lots.opening.0);
+        self.add("closed old", at(position::CLOSED_OLD), 4, 0..=opening);
+        self.add("new", at(position::NEW), 4, 0..=most - old);
+        self.add("paired", at(position::PAIRED), 4, 0..=held);
+    }
+}
+
+fn wide(range: RangeInclusive<i64>) -> RangeInclusive<i128> {
+    i128::from(*range.start())..=i128::from(*range.end())
+}
+
+/// A count one below, at or one above a bound, and not below 0.
+fn about(random: &mut Random, bound: i64) -> i64 {
+    (bound + random.count(-1..=1)).max(0)
+}
+
+/// One side's lots at or beside their bounds, and the same lots on the other
+/// side of another member, so that only the bounds decide. A book of one member
+/// has them on its both sides.
+fn lots_at_a_bound(random: &mut Random, book: &Book) -> Case {
+    let mut book = book.clone();
+    let members = book.accounts.len();
+    let contract = random.below(book.contracts.len());
+    let first = random.below(members);
+    let second = (first + 1 + random.below(members.max(2) - 1)) % members;
+    let most = *bounds::HELD.end();
+    let ends = [0, 1, most - 1, most, most + 1];
+    let opening = *random.pick(&ends);
+    let closed_old = match random.below(3) {
+        0 => 0,
+        1 => about(random, opening),
+        _ => random.count(0..=opening),
+    };
+    let old = opening - closed_old;
+    let new = match random.below(4) {
+        0 => 0,
+        1 => about(random, -old),
+        2 => random.count(0..=most),
+        _ => about(random, most - old),
+    };
+    let held = (old + new).max(0);
+    let paired = match random.below(3) {
+        0 => 0,
+        1 => random.count(0..=held),
+        _ => about(random, held),
+    };
+    let lots = SideLots {
+        opening: Lots(opening),
+        closed_old: Lots(closed_old),
+        new: Lots(new),
+        paired: Lots(paired),
+    };
+    for member in 0..members {
+        let row = book.position_mut(member, contract);
+        let traded = row.traded;
+        *row = Position::default();
+        row.traded = traded;
+    }
+    let side = *random.pick(&Side::BOTH);
+    book.position_mut(first, contract)[side] = lots;
+    book.position_mut(second, contract)[side.other()] = lots;
+    Case {
+        name: format!("contract {contract} with {lots:?} alone, of members {first} and {second}"),
+        bytes: book.encode(),
+    }
+}
+
+/// Traded lots, cash sums or moved money at or beside what the figures they
+/// depend on allow, and the contract balanced.
+fn sums_at_a_bound(random: &mut Random, book: &Book) -> Case {
+    let mut book = book.clone();
+    let members = book.accounts.len();
+    let contract = random.below(book.contracts.len());
+    let member = random.below(members);
+    let other = (member + 1) % members;
+    let what = random.below(3);
+    match what {
+        0 => {
+            let rows = book.positions_of(member).iter();
+            let traded: i64 = rows.map(|row| row.traded.0).sum();
+            let most = most_traded(book.accounts[member].accepted).0;
+            let row = book.position_mut(member, contract);
+            let step = random.count(-1..=1).max(traded - most - row.traded.0);
+            row.traded += Lots(most - traded + step);
+        }
+        1 => {
+            let row = book.position(member, contract);
+            let bound = *random.pick(&[most_cash(row.traded), -most_cash(row.traded)]);
+            let step = bound - row.cash + Cash(random.within(-1..=1));
+            book.position_mut(member, contract).cash += step;
+            book.position_mut(other, contract).cash -= step;
+        }
+        _ => {
+            let account = &mut book.accounts[member];
+            account.accepted = random.edge_count(0..=*bounds::ACCEPTED.end() + 1);
+            let most = most_moved(account.accepted).0;
+            account.deposits = Fen((most + random.within(-1..=1)).max(0));
+            account.withdrawals = Fen((most + random.within(-1..=1)).max(0));
+        }
+    }
+    let what = ["traded lots", "cash sums", "moved money"][what];
+    Case {
+        name: format!("{what} of member {member} at a bound, contract {contract}"),
+        bytes: book.encode(),
+    }
+}
+
+fn damaged(random: &mut Random, book: &Book, bytes: &[u8]) -> Case {
+    let damage = *random.pick(&DAMAGE);
+    let mut bytes = bytes.to_vec();
+    damage.apply(random, &mut bytes, book.shape());
+    Case {
+        name: format!("{damage:?}"),
+        bytes,
+    }
+}
+
+/// Bytes that come from no book: none at all, any, or a head and a table of
+/// contents that fit each other and the length, and no rows.
+fn any_bytes(random: &mut Random) -> Case {
+    match random.below(4) {
+        0 => Case {
+            name: "no bytes".into(),
+            bytes: Vec::new(),
+        },
+        1 => {
+            let shape = Shape {
+                members: random.below(35),
+                contracts: random.below(35),
+            };
+            let bytes = front(shape, random.bits() as u8);
+            Case {
+                name: format!("a head of {} by {} alone", shape.members, shape.contracts),
+                bytes,
+            }
+        }
+        _ => Case {
+            name: "any bytes".into(),
+            bytes: noise(random),
+        },
+    }
+}
+
+/// The front of a book of any shape, and one byte all through the rows.
+fn front(shape: Shape, fill: u8) -> Vec<u8> {
+    let mut bytes = vec![fill; shape.total()];
+    let mut put = |at: usize, width: usize, value: usize| {
+        bytes[at..at + width].copy_from_slice(&value.to_le_bytes()[..width]);
+    };
+    put(head::MEMBERS, 2, shape.members);
+    put(head::CONTRACTS, 2, shape.contracts);
+    put(head::TOTAL, 4, shape.total());
+    for (entry, section) in shape.sections().iter().enumerate() {
+        let at = head::SIZE + entry * contents::SIZE;
+        put(at + contents::NUMBER, 2, usize::from(section.number));
+        put(at + contents::ROW_SIZE, 2, section.row_size);
+        put(at + contents::OFFSET, 4, section.offset);
+    }
+    bytes
+}

@@ -1,0 +1,113 @@
+//! The library compared with the second program, call by call.
+//!
+//! The loops take any [`Library`], so that they can themselves be tried: with
+//! the second program in the library's place they find no difference, and with
+//! a wrong one they do.
+
+pub mod books;
+pub mod checking;
+pub mod posting;
+pub mod settling;
+
+mod lent;
+mod tally;
+
+pub use lent::Lent;
+pub use tally::{Tally, DESCRIBED};
+
+/// What a library answered; or, where there is no answer or it cannot count,
+/// why not.
+pub type Answer = Result<u8, String>;
+
+/// The three functions, wherever they are.
+pub trait Library {
+    fn check(&mut self, book: &[u8]) -> Answer;
+
+    fn post(&mut self, book: &mut [u8], record: &[u8]) -> Answer;
+
+    fn settle(&mut self, book: &[u8], prices: &[u8], next: &mut [u8], results: &mut [u8])
+        -> Answer;
+}
+
+/// Why a function has no answer in a build that leaves it out.
+pub const WITHOUT_POST: &str = "built without the feature `post`";
+pub const WITHOUT_SETTLE: &str = "built without the feature `settle`";
+
+/// The library that this package links.
+pub struct Linked;
+
+impl Library for Linked {
+    fn check(&mut self, book: &[u8]) -> Answer {
+        Ok(crate::check(book))
+    }
+
+    #[cfg(feature = "post")]
+    fn post(&mut self, book: &mut [u8], record: &[u8]) -> Answer {
+        Ok(crate::post(book, record))
+    }
+
+    #[cfg(not(feature = "post"))]
+    fn post(&mut self, _: &mut [u8], _: &[u8]) -> Answer {
+        Err(WITHOUT_POST.into())
+    }
+
+    #[cfg(feature = "settle")]
+    fn settle(
+        &mut self,
+        book: &[u8],
+        prices: &[u8],
+        next: &mut [u8],
+        results: &mut [u8],
+    ) -> Answer {
+        Ok(crate::settle(book, prices, next, results))
+    }
+
+    #[cfg(not(feature = "settle"))]
+    fn settle(&mut self, _: &[u8], _: &[u8], _: &mut [u8], _: &mut [u8]) -> Answer {
+        Err(WITHOUT_SETTLE.into())
+    }
+}
+
+/// The second program in the library's place.
+pub struct Second;
+
+impl Library for Second {
+    fn check(&mut self, book: &[u8]) -> Answer {
+        Ok(second::check(book))
+    }
+
+    fn post(&mut self, book: &mut [u8], record: &[u8]) -> Answer {
+        Ok(second::post(book, record))
+    }
+
+    fn settle(
+        &mut self,
+        book: &[u8],
+        prices: &[u8],
+        next: &mut [u8],
+        results: &mut [u8],
+    ) -> Answer {
+        Ok(second::settle(book, prices, next, results))
+    }
+}
+
+/// The archive itself: linked where a program of this machine can link it, and
+/// else under the emulator.
+pub fn archive() -> Box<dyn Library> {
+    #[cfg(emulated)]
+    return Box::new(crate::emulated::Emulated::start());
+    #[cfg(not(emulated))]
+    return Box::new(Linked);
+}
+
+/// All there is to compare, by name: what this package links, and the archive
+/// where that is another.
+pub fn libraries() -> Vec<(&'static str, Box<dyn Library>)> {
+    #[cfg(emulated)]
+    return vec![
+        ("the archive, emulated", archive()),
+        ("the library for this machine", Box::new(Linked)),
+    ];
+    #[cfg(not(emulated))]
+    return vec![("the archive", archive())];
+}
