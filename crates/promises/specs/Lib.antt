@@ -1,0 +1,4 @@
+pub mod Naming
+pub mod Dealings
+pub mod ByArticle
+pub mod SmallBook

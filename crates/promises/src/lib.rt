@@ -1,0 +1,1 @@
+// What the records of a day do to a book, as theorems: no code.
