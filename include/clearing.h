@@ -16,7 +16,7 @@
  * Answers. Each function answers 0 or a refusal number. A refusal leaves all
  * lent memory as it stood.
  *
- *    0  valid or accepted
+ *    0  valid, accepted or settled
  *    1  record not 24 bytes; kind outside 1..5; a field out of range, absent
  *       from the book, or not zero though unused; buyer and seller equal
  *    2  a named member has 20,000 accepted records
@@ -27,10 +27,15 @@
  *    5  trade: a held side would pass 100,000
  *    6  withdrawal above the room left
  *    7  pairing above a side's held lots less those paired
+ *    8  not exactly one pair of prices a contract; settlement price outside
+ *       1..10,000,000; delivery price above 10,000,000, or 0 where lots are
+ *       paired
+ *    9  a member's reserve tonight outside -10^15..10^15
  *   10  book not valid
+ *   11  lent room for the next book or the results too short
  *
  * The first that holds counts: for a record 10, 1, 2, then those of its kind by
- * rising number. Memory lent for writing overlaps no other lent to the same call.
+ * rising number; for a settlement 10, 8, 11, 9. Memory lent for writing overlaps no other lent to the same call.
  */
 #ifndef CLEARING_H
 #define CLEARING_H
@@ -57,6 +62,17 @@ uint8_t clearing_check(const uint8_t *book, size_t book_len);
  */
 uint8_t clearing_post(uint8_t *book, size_t book_len,
                       const uint8_t *record, size_t record_len);
+
+/*
+ * Settles a book at one pair of prices a contract (settlement, delivery; four
+ * bytes each): 0, or 10, 8, 11, 9. With 0, next begins with the next day's book
+ * (as long as this one) and results with 72 bytes a member; bytes beyond keep
+ * their values. Book and prices are read only.
+ */
+uint8_t clearing_settle(const uint8_t *book, size_t book_len,
+                        const uint8_t *prices, size_t prices_len,
+                        uint8_t *next, size_t next_len,
+                        uint8_t *results, size_t results_len);
 
 #ifdef __cplusplus
 }

@@ -1,0 +1,45 @@
+-- The writes one after the other are the table of fields.
+use borrow.Author.Needs.{needs}
+use mathlib.Core.Path.{_≡_, refl, sym, ap, ap₂, _∙_}
+use native.Mathlib.Omega.{arith}
+use mir.Syntax.{w64}
+use mir.ValLaws.{toZ-ofZ}
+use Rattle.settlement.proofs.results.put_sums.Statement.{statement}
+use Rattle.settlement.proofs.results.put_sums.Tie as tie
+
+add-write-u64 : tie.Need-add-write-u64
+add-write-u64 c = search needs
+
+write-u64-requires : tie.Need-write-u64-requires
+write-u64-requires c κs = search needs
+
+add-write-i64 : tie.Need-add-write-i64
+add-write-i64 c = search needs
+
+write-i64-requires : tie.Need-write-i64-requires
+write-i64-requires c κs = search needs
+
+add-write-i64-2 : tie.Need-add-write-i64-2
+add-write-i64-2 c = search needs
+
+write-i64-requires-2 : tie.Need-write-i64-requires-2
+write-i64-requires-2 c κs = search needs
+
+same-length : tie.Need-same-length
+same-length c = search needs
+
+returns : tie.Need-returns
+returns c = rw (c .before .before .write-i642 .ensures, c .before .before .before .before .before .before .before .write-i64 .ensures, c .before .before .before .before .before .before .before .before .before .before .before .before .write-u64 .ensures, toZ-ofZ w64 (c .before .before .before .before .before .before .before .before .before .before .before .before .before .before .before .args .t .profit .0) (record { sfits = search needs }), toZ-ofZ w64 (c .before .before .before .before .before .before .before .before .before .before .before .before .before .before .before .args .t .fee .0) (record { sfits = search needs }))
+
+pub put-sums-spec : {M : Type 1} → statement M
+put-sums-spec =
+    tie.close
+    (tie.spec
+    add-write-u64
+    write-u64-requires
+    add-write-i64
+    write-i64-requires
+    add-write-i64-2
+    write-i64-requires-2
+    same-length
+    returns)
