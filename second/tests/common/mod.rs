@@ -251,5 +251,7 @@ pub fn evening(input: &[u8]) -> String {
 
 /// Runs the evening program itself.
 pub fn run_program(input: &[u8]) -> Output {
-    second::comparison::run(Path::new(env!("CARGO_BIN_EXE_second")), input).unwrap()
+    let program =
+        option_env!("CARGO_BIN_EXE_second").expect("cargo names it for this package alone");
+    second::comparison::run(Path::new(program), input).unwrap()
 }

@@ -1,0 +1,55 @@
+// The first bytes of the program's arrays, lent to the functions that decide.
+use intake::parts;
+use intake::records;
+ghost use Prim.Native.Nat.{_+_, _*_, _≤_, _<_, _^_};
+ghost use lib.ListN.{length};
+ghost use Rattle.book.specs.Layout.{longestBook};
+ghost use Rattle.sheet.specs.Sheet.{longestRefused};
+ghost use Rattle.intake.specs.Intake.{recordsIn};
+
+pub fn book_total(bytes: &[u8], n: usize) -> usize
+    requires { ⌜ n ≤ length (now bytes) ⌝ }
+    ensures { λ r. ⌜ r ≤ longestBook ⌝ }
+{
+    parts::book_total(&bytes[0..n])
+}
+
+pub fn book_there(bytes: &[u8], n: usize) -> usize
+    requires { ⌜ n ≤ length (now bytes) ⌝ }
+    ensures { λ r. ⌜ r ≤ n ⌝ }
+{
+    parts::book_there(&bytes[0..n])
+}
+
+pub fn count_of(bytes: &[u8], n: usize) -> u64
+    requires { ⌜ n ≤ length (now bytes) ⌝ }
+{
+    parts::count_of(&bytes[0..n])
+}
+
+pub fn post_records(
+    book: &mut [u8],
+    total: usize,
+    input: &[u8],
+    n: usize,
+    place: u64,
+    lines: &mut [u8],
+) -> usize
+    requires { ⌜ (total ≤ length (now book)) × (n ≤ length (now input)) × (recordsIn n * longestRefused ≤ length (now lines)) × (place + recordsIn n < 2 ^ 64) ⌝ }
+    ensures { λ r. ⌜ r ≤ length (now (lines .entry)) ⌝ }
+{
+    records::post_records(&mut book[0..total], &input[0..n], place, lines)
+}
+
+pub fn settle(
+    book: &[u8],
+    total: usize,
+    input: &[u8],
+    n: usize,
+    next: &mut [u8],
+    results: &mut [u8],
+) -> u8
+    requires { ⌜ (total ≤ length (now book)) × (n ≤ length (now input)) ⌝ }
+{
+    settlement::settle(&book[0..total], &input[0..n], next, results)
+}

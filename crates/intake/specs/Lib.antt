@@ -1,0 +1,2 @@
+pub mod Intake
+pub mod Posted
