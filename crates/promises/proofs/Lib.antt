@@ -23,3 +23,5 @@ pub mod ProfitOfRecords
 pub mod Example
 pub mod OrderExample
 pub mod ProfitExample
+pub mod EveningOfRecords
+pub mod ProfitOnTheSheet

@@ -2,3 +2,4 @@ pub mod Naming
 pub mod Dealings
 pub mod ByArticle
 pub mod SmallBook
+pub mod SameEvening
