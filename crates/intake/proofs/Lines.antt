@@ -13,7 +13,7 @@ use Rattle.folds.specs.First.{onZero}
 use Rattle.folds.proofs.First.{on-refusal}
 use Rattle.posting.specs.Answers.{after}
 use Rattle.sheet.specs.Sheet.{refusedLine, sheetText, settlementRefused}
-use Rattle.intake.specs.Intake.{recordSize, recordAt}
+use Rattle.intake.specs.Intake.{recordSize, recordBytes}
 use Rattle.intake.specs.Posted.{bookAfter, answerLine, outcome}
 
 take-least : (n : ℕ) (l : List ℕ) → take (min n (length l)) l ≡ take n l
@@ -25,8 +25,8 @@ take-least n l =
     refl
 
 -- from the record's start to its end, or to the end of the bytes
-pub record-part : (xs : List ℕ) (i : ℕ) → i * recordSize ≤ length xs → take (min (i * recordSize + recordSize) (length xs) - i * recordSize) (drop (i * recordSize) xs) ≡ recordAt xs i
-unfolding recordAt
+pub record-part : (xs : List ℕ) (i : ℕ) → i * recordSize ≤ length xs → take (min (i * recordSize + recordSize) (length xs) - i * recordSize) (drop (i * recordSize) xs) ≡ recordBytes xs i
+unfolding recordBytes
 record-part xs i h =
     let d = drop (i * recordSize) xs in
     let e : min (i * recordSize + recordSize) (length xs) - i * recordSize ≡ min recordSize (length d) = omega (arith, length-drop (i * recordSize) xs) in
@@ -36,7 +36,7 @@ pub book-none : (book records : List ℕ) → bookAfter book records 0 ≡ book
 unfolding bookAfter
 book-none book records = refl
 
-pub book-next : (book records : List ℕ) (i : ℕ) → bookAfter book records (i + 1) ≡ after (bookAfter book records i) (recordAt records i)
+pub book-next : (book records : List ℕ) (i : ℕ) → bookAfter book records (i + 1) ≡ after (bookAfter book records i) (recordBytes records i)
 unfolding bookAfter
 book-next book records i = rw add-one
 

@@ -10,7 +10,7 @@ use Rattle.numbers.specs.Fold.{foldTo}
 use Rattle.folds.specs.Laid.{bytesTo}
 use Rattle.folds.proofs.Laid.{bytes-ext}
 use Rattle.posting.specs.Answers.{answer, after}
-use Rattle.intake.specs.Intake.{recordSize, recordsIn, recordAt}
+use Rattle.intake.specs.Intake.{recordSize, recordsIn, recordBytes}
 use Rattle.intake.specs.Posted.{bookAfter, answerTo, answerLine, linesTo, refusedLines, bookPosted}
 
 bytes-split : (f : ℕ → List ℕ) (m n : ℕ) → bytesTo f (m + n) ≡ bytesTo f m ++ bytesTo (λ (i : ℕ). f (m + i)) n
@@ -24,14 +24,14 @@ bytes-split f m (suc n) =
 
 -- m whole records, and what follows them
 module _ (book first rest : List ℕ) (m : ℕ) (whole : length first ≡ m * recordSize) where
-  record-first : (i : ℕ) → i < m → recordAt (first ++ rest) i ≡ recordAt first i
-  unfolding recordAt
+  record-first : (i : ℕ) → i < m → recordBytes (first ++ rest) i ≡ recordBytes first i
+  unfolding recordBytes
   record-first i h =
       ap (take recordSize) (drop-append-le (i * recordSize) first rest (omega arith))
       ∙ take-append-le recordSize (drop (i * recordSize) first) rest (omega (arith, length-drop (i * recordSize) first))
 
-  record-rest : (i : ℕ) → recordAt (first ++ rest) (m + i) ≡ recordAt rest i
-  unfolding recordAt
+  record-rest : (i : ℕ) → recordBytes (first ++ rest) (m + i) ≡ recordBytes rest i
+  unfolding recordBytes
   record-rest i =
       let e : (m + i) * recordSize ≡ length first + i * recordSize = omega arith in
       ap (λ (k : ℕ). take recordSize (drop k (first ++ rest))) e ∙ ap (take recordSize) (drop-append-add first rest (i * recordSize))

@@ -8,6 +8,7 @@ use Rattle.wire.specs.LittleEndian.{numberAt}
 use Rattle.folds.specs.Tests.{allOf}
 use Rattle.book.specs.Layout.{headSize, longestBook}
 use Rattle.book.specs.Heads.{totalOf}
+pub use Rattle.posting.specs.Records.{recordSize}
 
 -- ---- the book
 
@@ -34,16 +35,13 @@ countOf bytes = cond (leb countSize (length bytes)) (numberAt bytes 0 countSize)
 
 -- ---- the records
 
-abbrev pub recordSize : ℕ
-recordSize = 24
-
 -- how many records are there in so many bytes, a short one at the end too
 abbrev pub recordsIn : ℕ → ℕ
 recordsIn n = (n + 23) / recordSize
 
 -- record i: 24 bytes, or those that are left at the end of the input
-unfoldable pub recordAt : List ℕ → ℕ → List ℕ
-recordAt bytes i = take recordSize (drop (i * recordSize) bytes)
+unfoldable pub recordBytes : List ℕ → ℕ → List ℕ
+recordBytes bytes i = take recordSize (drop (i * recordSize) bytes)
 
 -- ---- the prices
 

@@ -7,16 +7,16 @@ use Rattle.folds.specs.First.{onZero}
 use Rattle.book.specs.Heads.{headAt}
 use Rattle.posting.specs.Answers.{answer, after}
 use Rattle.sheet.specs.Sheet.{sheetText, refusedLine, settlementRefused, resultSize, longestRefused, longestLine, headerLength}
-use Rattle.intake.specs.Intake.{recordAt, recordsIn}
+use Rattle.intake.specs.Intake.{recordBytes, recordsIn}
 
 -- the book after the first n of the records
 unfoldable pub bookAfter : List ℕ → List ℕ → ℕ → List ℕ
 bookAfter book records zero = book
-bookAfter book records (suc n) = after (bookAfter book records n) (recordAt records n)
+bookAfter book records (suc n) = after (bookAfter book records n) (recordBytes records n)
 
 -- the answer to record i, on the book that the records before it have left
 unfoldable pub answerTo : List ℕ → List ℕ → ℕ → ℕ
-answerTo book records i = answer (bookAfter book records i) (recordAt records i)
+answerTo book records i = answer (bookAfter book records i) (recordBytes records i)
 
 -- `refused I N` for a refused record, nothing for an accepted one
 unfoldable pub answerLine : ℕ → ℕ → List ℕ

@@ -6,14 +6,14 @@ ghost use lib.ListN.{length};
 ghost use Rattle.posting.specs.Answers.{answer, after};
 ghost use Rattle.sheet.specs.Sheet.{longestRefused};
 ghost use Rattle.sheet.specs.Put.{Put};
-ghost use Rattle.intake.specs.Intake.{recordSize, recordsIn, recordAt};
+ghost use Rattle.intake.specs.Intake.{recordSize, recordsIn, recordBytes};
 ghost use Rattle.intake.specs.Posted.{bookPosted, answerLine, refusedLines, LinesRoom};
 
 // Record i. This alone posts: the book is checked anew for each record.
 fn post_one(book: &mut [u8], records: &[u8], i: usize) -> u8
     requires { ⌜ i * recordSize ≤ length (now records) ⌝ }
-    ensures { λ n. ⌜ n ≡ answer (now (book .entry)) (recordAt (now (records .entry)) i) ⌝ }
-    ensures { λ _. ⌜ now (book .exit) ≡ after (now (book .entry)) (recordAt (now (records .entry)) i) ⌝ }
+    ensures { λ n. ⌜ n ≡ answer (now (book .entry)) (recordBytes (now (records .entry)) i) ⌝ }
+    ensures { λ _. ⌜ now (book .exit) ≡ after (now (book .entry)) (recordBytes (now (records .entry)) i) ⌝ }
 {
     let from = i * parts::RECORD;
     let end = parts::record_end(records.len(), from);

@@ -4,7 +4,7 @@ use mathlib.Core.List.{List}
 use Prim.Native.Nat.{ℕ, _-_, _*_}
 use lib.ListN.{length, take, drop}
 use Rattle.posting.specs.Answers.{answer, after}
-use Rattle.intake.specs.Intake.{recordSize, recordAt}
+use Rattle.intake.specs.Intake.{recordSize, recordBytes}
 use Rattle.intake.proofs.Lines.{record-part}
 use borrow.Author.Needs.{needs}
 use Rattle.intake.proofs.records.post_one.Statement.{statement}
@@ -35,7 +35,7 @@ returns : tie.Need-returns
 returns c = let s = c .before .before .before .before .before .before .before .before .args in
     let book = s .book .now in
     let xs = s .records .now in
-    let e : take (c .before .before .before .before .before .record-end .result - s .i * recordSize) (drop (s .i * recordSize) xs) ≡ recordAt xs (s .i)
+    let e : take (c .before .before .before .before .before .record-end .result - s .i * recordSize) (drop (s .i * recordSize) xs) ≡ recordBytes xs (s .i)
     = ap (λ (k : ℕ). take (k - s .i * recordSize) (drop (s .i * recordSize) xs)) (c .before .before .before .before .before .record-end .ensures) ∙ record-part xs (s .i) (c .before .before .before .before .before .before .before .before .pre) in
     (c .before .before .post .ensures .0 ∙ ap (answer book) e, c .before .before .post .ensures .1 ∙ ap (after book) e)
 

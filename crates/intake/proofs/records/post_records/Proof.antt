@@ -9,7 +9,7 @@ use Rattle.sheet.specs.Sheet.{longestRefused}
 use Rattle.sheet.specs.Put.{Put}
 use Rattle.sheet.proofs.Puts.{put-same, put-none, put-next}
 use Rattle.posting.specs.Answers.{answer, after}
-use Rattle.intake.specs.Intake.{recordSize, recordsIn, recordAt}
+use Rattle.intake.specs.Intake.{recordSize, recordsIn, recordBytes}
 use Rattle.intake.specs.Posted.{bookAfter, answerTo, answerLine, linesTo}
 use Rattle.intake.proofs.Lines.{book-none, book-next}
 use Rattle.intake.proofs.records.post_records.Statement.{statement}
@@ -59,8 +59,8 @@ loop-again c = let a = c .before .before .before .before .before .before .before
       omega arith,
       omega arith,
       omega (arith, put .1, l .inv .3),
-      posted .1 ∙ ap (λ (x : List ℕ). after x (recordAt xs i)) b ∙ sym (book-next book xs i),
-      put-next f i (l .inv .5) (put-same (ap (answerLine (a .place + i)) (posted .0 ∙ ap (λ (x : List ℕ). answer x (recordAt xs i)) b)) (put .0)),
+      posted .1 ∙ ap (λ (x : List ℕ). after x (recordBytes xs i)) b ∙ sym (book-next book xs i),
+      put-next f i (l .inv .5) (put-same (ap (answerLine (a .place + i)) (posted .0 ∙ ap (λ (x : List ℕ). answer x (recordBytes xs i)) b)) (put .0)),
     )
 
 same-length : tie.Need-same-length Inv-loop μ-loop
