@@ -6,6 +6,7 @@ ghost use mathlib.Core.Path.{_≡_};
 ghost use mathlib.Core.List.{_++_};
 ghost use lib.ListN.{length, take, drop};
 ghost use Rattle.book.specs.Layout.{longestBook};
+ghost use Rattle.settlement.specs.Settle.{settleAnswer, nextAfter, resultsAfter};
 ghost use Rattle.sheet.specs.Sheet.{longestRefused};
 ghost use Rattle.sheet.specs.Put.{Put};
 ghost use Rattle.intake.specs.Intake.{bookTotal, bookThere, countOf, recordsIn};
@@ -59,6 +60,9 @@ pub fn settle(
     results: &mut [u8],
 ) -> u8
     requires { ⌜ (total ≤ length (now book)) × (n ≤ length (now input)) ⌝ }
+    ensures { λ r. ⌜ r ≡ settleAnswer (take total (now (book .entry))) (take n (now (input .entry))) (length (now (next .entry))) (length (now (results .entry))) ⌝ }
+    ensures { λ _. ⌜ now (next .exit) ≡ nextAfter (take total (now (book .entry))) (take n (now (input .entry))) (now (next .entry)) (now (results .entry)) ⌝ }
+    ensures { λ _. ⌜ now (results .exit) ≡ resultsAfter (take total (now (book .entry))) (take n (now (input .entry))) (now (next .entry)) (now (results .entry)) ⌝ }
 {
     settlement::settle(&book[0..total], &input[0..n], next, results)
 }
