@@ -25,3 +25,4 @@ pub mod OrderExample
 pub mod ProfitExample
 pub mod EveningOfRecords
 pub mod ProfitOnTheSheet
+pub mod NextDay

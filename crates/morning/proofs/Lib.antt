@@ -1,0 +1,5 @@
+pub mod Back
+pub mod Fine
+pub mod Balances
+pub mod Morning
+pub mod CaseE
