@@ -3,3 +3,4 @@ pub mod Dealings
 pub mod ByArticle
 pub mod SmallBook
 pub mod SameEvening
+pub mod Days
