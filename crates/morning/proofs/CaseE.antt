@@ -10,8 +10,8 @@ use Rattle.book.specs.Members.{figuresAt, securitiesAt, dayAt, memberAt}
 use Rattle.book.specs.Positions.{sideAt, positionAt}
 use Rattle.book.specs.Books.{bookAt}
 use Rattle.validity.specs.Valid.{contentsOk, headOk, contractRows, memberRows, positionRow, positionRows, tradedOk, balanced, validRows, validBook}
-use Rattle.night.specs.Prices.{nonePaired, pricesOk}
-use Rattle.night.specs.Night.{tallyIn, tallyTo, nightOf, reservesOk}
+use Rattle.tonight.specs.Prices.{nonePaired, pricesOk}
+use Rattle.tonight.specs.Night.{tallyIn, tallyTo, nightOf, reservesOk}
 use Rattle.settlement.specs.Next.{headBytes, nextBytes, resultBytes}
 use Rattle.settlement.specs.Settle.{settleAnswer}
 use Rattle.morning.specs.CaseE.{bookE, pricesE, nextE, resultsE}

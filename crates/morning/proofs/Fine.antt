@@ -35,11 +35,11 @@ use Rattle.book.proofs.Rows.{MemberFits, SideFits, PositionFits}
 use Rattle.validity.specs.Valid.{upTo, aboutZero, contractTests, memberTests, sideTests, positionTests}
 use Rattle.validity.specs.Totals.{Ranged, PositionIn}
 use Rattle.validity.proofs.Facts.{contract-row, member-row, up-is}
-use Rattle.night.specs.Prices.{pairSize, tonightAt, deliveryAt, nonePaired, pairTests, pairOk, pricesOk}
-use Rattle.night.specs.Night.{tallyTo, nightOf}
-use Rattle.night.specs.Evening.{Evening}
-use Rattle.night.proofs.Facts.{contract-in, member-in}
-use Rattle.night.proofs.Sums.{tally-few, night-in}
+use Rattle.tonight.specs.Prices.{pairSize, tonightAt, deliveryAt, nonePaired, pairTests, pairOk, pricesOk}
+use Rattle.tonight.specs.Night.{tallyTo, nightOf}
+use Rattle.tonight.specs.Evening.{Evening}
+use Rattle.tonight.proofs.Facts.{contract-in, member-in}
+use Rattle.tonight.proofs.Sums.{tally-few, night-in}
 use Rattle.settlement.specs.Next.{nextContract, nextMember, opened, positionAfter}
 use Rattle.morning.proofs.Back.{ContractFits}
 

@@ -31,10 +31,10 @@ use Rattle.book.proofs.Places.{head-within, book-most}
 use Rattle.validity.specs.Valid.{headTests, headOk, countsOk, contentsOk, sameEntry, contractTests, memberTests, positionTests, contractRows, memberRow, memberRows, positionRow, positionRows, rowsOk, tradedOf, tradedOk, longsTo, shortsTo, cashTo, aboutZero, balanceTests, balanced, validRows, validBook}
 use Rattle.validity.specs.Opening.{freshMember, freshPosition, freshRows, openingBook}
 use Rattle.validity.proofs.Facts.{position-in, valid-head, valid-rows, valid-shaped, valid-ranged}
-use Rattle.night.specs.Prices.{pricesOk}
-use Rattle.night.specs.Night.{nightOf, reservesOk}
-use Rattle.night.specs.Evening.{Evening}
-use Rattle.night.proofs.Facts.{priced}
+use Rattle.tonight.specs.Prices.{pricesOk}
+use Rattle.tonight.specs.Night.{nightOf, reservesOk}
+use Rattle.tonight.specs.Evening.{Evening}
+use Rattle.tonight.proofs.Facts.{priced}
 use Rattle.settlement.specs.Next.{nextContract, nextMember, nextPosition, nextBytes}
 use Rattle.settlement.specs.Settle.{settleRules, settleAnswer, nextAfter}
 use Rattle.settlement.proofs.Parts.{next-length}

@@ -10,8 +10,8 @@ use Rattle.book.specs.Heads.{headAt}
 use Rattle.book.specs.Books.{bookAt}
 use Rattle.validity.specs.Opening.{openingBook}
 use Rattle.posting.specs.Answers.{after}
-use Rattle.night.specs.Prices.{tonightAt, deliveryAt}
-use Rattle.night.specs.Night.{nightOf}
+use Rattle.tonight.specs.Prices.{tonightAt, deliveryAt}
+use Rattle.tonight.specs.Night.{nightOf}
 use Rattle.settlement.specs.Settle.{settleAnswer}
 use Rattle.morning.proofs.Morning.{next-morning}
 use Rattle.promises.specs.ByArticle.{ByArticle}

@@ -9,8 +9,8 @@ use Rattle.book.specs.Heads.{headAt}
 use Rattle.book.specs.Books.{bookAt}
 use Rattle.validity.specs.Opening.{openingBook}
 use Rattle.posting.specs.Answers.{after}
-use Rattle.night.specs.Prices.{tonightAt, deliveryAt}
-use Rattle.night.specs.Night.{tallyIn, tallyTo, nightOf}
+use Rattle.tonight.specs.Prices.{tonightAt, deliveryAt}
+use Rattle.tonight.specs.Night.{tallyIn, tallyTo, nightOf}
 use Rattle.promises.specs.ByArticle.{ByArticle, profitOn}
 use Rattle.promises.proofs.ProfitOfRecords.{the-profit, a-profit}
 

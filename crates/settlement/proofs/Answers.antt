@@ -11,8 +11,8 @@ use Rattle.folds.proofs.First.{none-holds}
 use Rattle.book.specs.Layout.{bookLength}
 use Rattle.book.specs.Books.{Book, bookAt}
 use Rattle.validity.specs.Valid.{validBook}
-use Rattle.night.specs.Prices.{pricesOk}
-use Rattle.night.specs.Night.{reservesOk}
+use Rattle.tonight.specs.Prices.{pricesOk}
+use Rattle.tonight.specs.Night.{reservesOk}
 use Rattle.settlement.specs.Next.{resultSize, nextBytes, resultBytes}
 use Rattle.settlement.specs.Settle.{eveningRules, eveningAnswer, settleAnswer, nextAfter, resultsAfter}
 

@@ -10,7 +10,7 @@ use Rattle.book.specs.Contracts.{contractFields}
 use Rattle.book.specs.Members.{memberFields}
 use Rattle.book.specs.Positions.{positionFields}
 use Rattle.book.specs.Books.{Book}
-use Rattle.night.specs.Night.{nightOf}
+use Rattle.tonight.specs.Night.{nightOf}
 use Rattle.settlement.specs.Next.{nextContract, nextMember, nextPosition, contractBytes, memberBytes, positionBytes, positionsBytes, resultSize, resultFields, resultRow}
 
 module _ (b : Book) (ps : List ℕ) where

@@ -19,9 +19,9 @@ use Rattle.book.specs.Contracts.{contractFields}
 use Rattle.book.specs.Members.{moneyField, memberFields}
 use Rattle.book.specs.Positions.{heldSides, pairedOf, positionFields}
 use Rattle.book.specs.Books.{Book}
-use Rattle.night.specs.Prices.{tonightAt}
-use Rattle.night.specs.declared.nights.Night.{Night}
-use Rattle.night.specs.Night.{nightOf}
+use Rattle.tonight.specs.Prices.{tonightAt}
+use Rattle.tonight.specs.declared.nights.Night.{Night}
+use Rattle.tonight.specs.Night.{nightOf}
 
 -- ---- the rows of the next book
 

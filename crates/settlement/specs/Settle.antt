@@ -9,8 +9,8 @@ use Rattle.folds.specs.Laid.{over}
 use Rattle.book.specs.Layout.{bookLength}
 use Rattle.book.specs.Books.{Book, bookAt}
 use Rattle.validity.specs.Valid.{validBook}
-use Rattle.night.specs.Prices.{pricesOk}
-use Rattle.night.specs.Night.{reservesOk}
+use Rattle.tonight.specs.Prices.{pricesOk}
+use Rattle.tonight.specs.Night.{reservesOk}
 use Rattle.settlement.specs.Next.{resultSize, nextBytes, resultBytes}
 
 -- of a valid book: 8, 11, 9; nextLength and resultsLength are what is lent for the next book and the results

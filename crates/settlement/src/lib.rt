@@ -18,7 +18,7 @@ fn refusal(book: &[u8], prices: &[u8], h: Head, next: usize, results: usize) -> 
     requires { ⌜ Shaped (now book) h × Ranged (bookBy h (now book)) ⌝ }
     ensures { λ r. ⌜ r ≡ eveningAnswer (bookBy h (now (book .entry))) (now (prices .entry)) next results ⌝ }
 {
-    if !night::prices::prices_ok(book, prices, h) {
+    if !tonight::prices::prices_ok(book, prices, h) {
         return 8;
     }
     if next < validity::heads::book_length(h) {
@@ -27,7 +27,7 @@ fn refusal(book: &[u8], prices: &[u8], h: Head, next: usize, results: usize) -> 
     if results < h.members * results::RESULT {
         return 11;
     }
-    if !night::nights::reserves_ok(book, prices, h) {
+    if !tonight::nights::reserves_ok(book, prices, h) {
         return 9;
     }
     0

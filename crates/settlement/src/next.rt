@@ -6,14 +6,14 @@ use book::members::Day;
 use book::members::Member;
 use book::positions::Position;
 use book::positions::Side;
-use night::nights;
-use night::prices;
-use night::tallies;
 use rules::units::Fen;
 use rules::units::Figures;
 use rules::units::Lots;
 use rules::units::Price;
 use rules::units::Sides;
+use tonight::nights;
+use tonight::prices;
+use tonight::tallies;
 ghost use mathlib.Core.Path.{_≡_};
 ghost use Prim.Native.Nat.{_+_, _*_, _≤_, _<_};
 ghost use lib.ListN.{length};
@@ -24,9 +24,9 @@ ghost use Rattle.book.specs.Layout.{headSize, entrySize, contractOff, memberOff
 ghost use Rattle.book.specs.Heads.{headFields, entryFields};
 ghost use Rattle.book.specs.Books.{bookBy};
 ghost use Rattle.validity.specs.Totals.{PositionIn};
-ghost use Rattle.night.specs.Night.{nightOf};
+ghost use Rattle.tonight.specs.Night.{nightOf};
 ghost use Rattle.settlement.specs.Next.{memberAfter, opened, positionOf, positionAfter, headBytes, contractBytes, memberBytes, positionBytes, positionsBytes, nextBytes};
-ghost use Rattle.night.specs.Evening.{Evening};
+ghost use Rattle.tonight.specs.Evening.{Evening};
 
 fn put_counts(next: &mut [u8], h: Head)
     requires { ⌜ (h .members ≤ 32) × (h .contracts ≤ 32) × (headSize ≤ length (now next)) ⌝ }

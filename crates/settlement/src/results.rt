@@ -1,8 +1,8 @@
 // The results: the nine sheet fields of each member, eight bytes each, signed.
 use book::heads::Head;
-use night::nights;
-use night::nights::Night;
 use rules::units::Figures;
+use tonight::nights;
+use tonight::nights::Night;
 ghost use mathlib.Core.Path.{_≡_};
 ghost use Prim.Native.Nat.{_+_, _*_, _≤_, _<_};
 ghost use lib.ListN.{length};
@@ -10,7 +10,7 @@ ghost use lib.Seq.{sets};
 ghost use Rattle.folds.specs.Rows.{rowBytes, putFields};
 ghost use Rattle.book.specs.Books.{bookBy};
 ghost use Rattle.settlement.specs.Next.{resultSize, resultSums, resultFigures, resultStanding, resultFields, resultRow, resultBytes};
-ghost use Rattle.night.specs.Evening.{Evening};
+ghost use Rattle.tonight.specs.Evening.{Evening};
 
 pub const RESULT: usize = 72;
 

@@ -8,9 +8,9 @@ use lib.Dec.{ltb}
 use borrow.Author.Tests.{not-true, not-false, lt-ltb, le-ltb}
 use Rattle.book.specs.Layout.{bookLength}
 use Rattle.book.specs.Books.{bookBy}
-use Rattle.night.specs.Prices.{pricesOk}
-use Rattle.night.specs.Evening.{Evening}
-use Rattle.night.proofs.Facts.{priced}
+use Rattle.tonight.specs.Prices.{pricesOk}
+use Rattle.tonight.specs.Evening.{Evening}
+use Rattle.tonight.proofs.Facts.{priced}
 use Rattle.settlement.specs.Next.{resultSize}
 use Rattle.settlement.specs.Settle.{eveningAnswer}
 use Rattle.settlement.proofs.refusal.Statement.{statement}

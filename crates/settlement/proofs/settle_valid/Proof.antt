@@ -6,8 +6,8 @@ use lib.ListN.{length}
 use Rattle.folds.proofs.Laid.{sets-over}
 use Rattle.folds.proofs.First.{on-refusal}
 use Rattle.book.specs.Books.{bookBy}
-use Rattle.night.specs.Evening.{Evening}
-use Rattle.night.proofs.Facts.{priced}
+use Rattle.tonight.specs.Evening.{Evening}
+use Rattle.tonight.proofs.Facts.{priced}
 use Rattle.settlement.specs.Next.{nextBytes, resultBytes}
 use Rattle.settlement.specs.Settle.{eveningAnswer}
 use Rattle.settlement.proofs.Parts.{next-length, results-length}

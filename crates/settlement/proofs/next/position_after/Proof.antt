@@ -3,7 +3,7 @@ use borrow.Author.Needs.{needs}
 use mathlib.Core.Path.{_≡_, refl, sym, ap, ap₂, _∙_}
 use native.Mathlib.Omega.{arith}
 use Rattle.rules.specs.Margin.{remainingOf}
-use Rattle.night.proofs.Facts.{paired-held}
+use Rattle.tonight.proofs.Facts.{paired-held}
 use Rattle.settlement.specs.Next.{positionOf}
 use Rattle.settlement.proofs.next.position_after.Statement.{statement}
 use Rattle.settlement.proofs.next.position_after.Tie as tie
