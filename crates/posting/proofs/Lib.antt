@@ -1,2 +1,4 @@
 pub mod Sides
 pub mod Outcomes
+pub mod Thin
+pub mod Lender

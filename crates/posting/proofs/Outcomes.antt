@@ -1,34 +1,117 @@
--- A refusal makes nothing, and an accepted record the accounts stated.
-use mathlib.Core.Path.{_≡_, refl}
-use mathlib.Core.Bool.{true}
-use Prim.Native.Nat.{ℕ, zero, suc}
-use borrow.Author.Tests.{not-false}
+-- A refusal leaves the account as it stood, an accepted entry makes the account stated, and two accounts refuse by the lower number.
+use mathlib.Core.Path.{_≡_, refl, sym, ap, _∙_}
+use mathlib.Core.Bool.{Bool, true, false, cond}
+use Prim.Native.Nat.{ℕ, zero, suc, _≤_, _<_}
+use native.Mathlib.Omega.{arith}
+use lib.Dec.{leb}
+use borrow.Author.Tests.{not-false, le-leb, lt-leb}
+use mathlib.Core.List.{[], _∷_}
+use Rattle.folds.specs.First.{_gives_, firstOf, onZero}
 use Rattle.folds.proofs.First.{none-holds}
 use Rattle.book.specs.declared.accounts.Account.{Account}
-use Rattle.posting.specs.Records.{Trade}
-use Rattle.posting.specs.Fills.{Buyer, Seller, wayOf, sideOn, enough}
-use Rattle.posting.specs.Postings.{Posted, BothPosted, settled, bothSettled, tradeRules, tradeAnswer}
+use Rattle.posting.specs.Records.{Mark, Trade, Pairing}
+use Rattle.posting.specs.Fills.{Party, Buyer, Seller, Long, Short, wayOf, sideOn, enough}
+use Rattle.posting.specs.Postings.{full, barred, fewer, beyond, scarce, tradeAnswer, pairingAnswer}
+use Rattle.posting.specs.Entries.{Entry, Posted, entered, postedOf, Buys, Sells, Receives, Delivers, sideRules, sideAnswer, pairedAnswer, entryAnswer, lower}
 
-pub refused-is : (n : ℕ) (a : Account) → (n ≡ 0 → ⊥) → settled n a ≡ Posted.Refused n
-refused-is zero a h = absurd (h refl)
-refused-is (suc n) a h = refl
+-- an accepted side of a trade finds enough lots under its mark
+pub has-enough : (party : Party) (mark : Mark) (t : Trade) (a : Account) → sideAnswer party mark t a ≡ 0 → enough mark (t .lots .0) (sideOn (wayOf party mark) (a .position)) ≡ true
+unfolding sideAnswer
+has-enough party mark t a e = not-false (enough mark (t .lots .0) (sideOn (wayOf party mark) (a .position))) (none-holds (sideRules party mark t a) refl e 2)
 
-pub both-refused : (n : ℕ) (a b : Account) → (n ≡ 0 → ⊥) → bothSettled n a b ≡ BothPosted.Refused n
-both-refused zero a b h = absurd (h refl)
-both-refused (suc n) a b h = refl
+-- a refusal leaves the account as it stood
+pub posted-refused : (a : Account) (e : Entry) (n : ℕ) → n ≡ entryAnswer e a → (n ≡ 0 → ⊥) → record { answer = n; account = a } ≡ postedOf a e
+posted-refused a e n is refused = λ i. record { answer = is i; account = sym (kept (entryAnswer e a) (λ z. refused (is ∙ z))) i }
+  where
+    kept : (m : ℕ) → (m ≡ 0 → ⊥) → onZero m (entered e a) a ≡ a
+    kept zero h = absurd (h refl)
+    kept (suc m) h = refl
 
-pub done-is : (n : ℕ) (a : Account) → n ≡ 0 → settled n a ≡ Posted.Done a
-done-is n a e = rw e
+-- an accepted entry makes the account stated
+pub posted-done : (a : Account) (e : Entry) (b : Account) → b ≡ entered e a → entryAnswer e a ≡ 0 → record { answer = 0; account = b } ≡ postedOf a e
+posted-done a e b is zeroed = λ i. record { answer = sym zeroed i; account = (is ∙ sym (ap (λ (m : ℕ). onZero m (entered e a) a) zeroed)) i }
 
-pub both-done : (n : ℕ) (a b : Account) → n ≡ 0 → bothSettled n a b ≡ BothPosted.Done (record { first = a; second = b })
-both-done n a b e = rw e
+-- the first rule of two accounts is the lower of the accounts' own first rules: both have the same rules, in rising order
+four-lower : (x₁ y₁ x₂ y₂ x₃ y₃ x₄ y₄ : Bool)
+    → firstOf ((x₁ gives 2) ∷ (y₁ gives 2) ∷ (x₂ gives 3) ∷ (y₂ gives 3) ∷ (x₃ gives 4) ∷ (y₃ gives 4) ∷ (x₄ gives 5) ∷ (y₄ gives 5) ∷ [])
+    ≡ lower (firstOf ((x₁ gives 2) ∷ (x₂ gives 3) ∷ (x₃ gives 4) ∷ (x₄ gives 5) ∷ [])) (firstOf ((y₁ gives 2) ∷ (y₂ gives 3) ∷ (y₃ gives 4) ∷ (y₄ gives 5) ∷ []))
+four-lower true true _ _ _ _ _ _ = refl
+four-lower true false _ true _ _ _ _ = refl
+four-lower true false _ false _ true _ _ = refl
+four-lower true false _ false _ false _ true = refl
+four-lower true false _ false _ false _ false = refl
+four-lower false true true _ _ _ _ _ = refl
+four-lower false false true true _ _ _ _ = refl
+four-lower false false true false _ true _ _ = refl
+four-lower false false true false _ false _ true = refl
+four-lower false false true false _ false _ false = refl
+four-lower false true false _ true _ _ _ = refl
+four-lower false false false true true _ _ _ = refl
+four-lower false false false false true true _ _ = refl
+four-lower false false false false true false _ true = refl
+four-lower false false false false true false _ false = refl
+four-lower false true false _ false _ true _ = refl
+four-lower false false false true false _ true _ = refl
+four-lower false false false false false true true _ = refl
+four-lower false false false false false false true true = refl
+four-lower false false false false false false true false = refl
+four-lower false true false _ false _ false _ = refl
+four-lower false false false true false _ false _ = refl
+four-lower false false false false false true false _ = refl
+four-lower false false false false false false false true = refl
+four-lower false false false false false false false false = refl
 
--- an accepted trade finds enough lots under either mark
-module _ (t : Trade) (a b : Account) (e : tradeAnswer t a b ≡ 0) where
-  pub buyer-has : enough (t .buying) (t .lots .0) (sideOn (wayOf Buyer (t .buying)) (a .position)) ≡ true
-  unfolding tradeAnswer
-  buyer-has = not-false (enough (t .buying) (t .lots .0) (sideOn (wayOf Buyer (t .buying)) (a .position))) (none-holds (tradeRules t a b) refl e 4)
+two-lower : (x₁ y₁ x₂ y₂ : Bool) → firstOf ((x₁ gives 2) ∷ (y₁ gives 2) ∷ (x₂ gives 7) ∷ (y₂ gives 7) ∷ []) ≡ lower (firstOf ((x₁ gives 2) ∷ (x₂ gives 7) ∷ [])) (firstOf ((y₁ gives 2) ∷ (y₂ gives 7) ∷ []))
+two-lower true true _ _ = refl
+two-lower true false _ true = refl
+two-lower true false _ false = refl
+two-lower false true true _ = refl
+two-lower false false true true = refl
+two-lower false false true false = refl
+two-lower false true false _ = refl
+two-lower false false false true = refl
+two-lower false false false false = refl
 
-  pub seller-has : enough (t .selling) (t .lots .0) (sideOn (wayOf Seller (t .selling)) (b .position)) ≡ true
-  unfolding tradeAnswer
-  seller-has = not-false (enough (t .selling) (t .lots .0) (sideOn (wayOf Seller (t .selling)) (b .position))) (none-holds (tradeRules t a b) refl e 5)
+pub trade-lower : (t : Trade) (a b : Account) → tradeAnswer t a b ≡ lower (entryAnswer (Buys t) a) (entryAnswer (Sells t) b)
+unfolding tradeAnswer sideAnswer
+trade-lower t a b =
+    four-lower (full a) (full b) (barred (t .buying) a) (barred (t .selling) b) (fewer Buyer (t .buying) t a) (fewer Seller (t .selling) t b)
+    (beyond Buyer (t .buying) t a) (beyond Seller (t .selling) t b)
+
+pub pairing-lower : (p : Pairing) (a b : Account) → pairingAnswer p a b ≡ lower (entryAnswer (Receives p) a) (entryAnswer (Delivers p) b)
+unfolding pairingAnswer pairedAnswer
+pairing-lower p a b = two-lower (full a) (full b) (scarce Long p a) (scarce Short p b)
+
+-- ---- the lower of two refusals
+
+never : (k : ℕ) → suc k ≡ 0 → ⊥
+never k e = omega (arith, e)
+
+-- neither refuses where the lower is 0
+pub lower-zero : (m n : ℕ) → lower m n ≡ 0 → (m ≡ 0) × (n ≡ 0)
+lower-zero zero n e = (refl, e)
+lower-zero (suc m) zero e = absurd (never m e)
+lower-zero (suc m) (suc n) e = absurd (go (leb (suc m) (suc n)) e)
+  where
+    go : (b : Bool) → cond b (suc m) (suc n) ≡ 0 → ⊥
+    go true h = never m h
+    go false h = never n h
+
+pub lower-second : (m n : ℕ) → (m ≡ 0 → ⊥) → n ≡ 0 → m ≡ lower m n
+lower-second zero n h e = absurd (h refl)
+lower-second (suc m) n h e = rw e
+
+module _ (m n : ℕ) (m-refuses : m ≡ 0 → ⊥) (n-refuses : n ≡ 0 → ⊥) where
+  both-refuse : lower m n ≡ cond (leb m n) m n
+  both-refuse = go m n m-refuses n-refuses
+    where
+      go : (m n : ℕ) → (m ≡ 0 → ⊥) → (n ≡ 0 → ⊥) → lower m n ≡ cond (leb m n) m n
+      go zero n h k = absurd (h refl)
+      go (suc m) zero h k = absurd (k refl)
+      go (suc m) (suc n) h k = refl
+
+  pub lower-is-first : m ≤ n → m ≡ lower m n
+  lower-is-first h = sym (both-refuse ∙ ap (λ (b : Bool). cond b m n) (le-leb m n h))
+
+  pub lower-is-second : n < m → n ≡ lower m n
+  lower-is-second h = sym (both-refuse ∙ ap (λ (b : Bool). cond b m n) (lt-leb m n h))

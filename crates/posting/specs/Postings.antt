@@ -18,9 +18,6 @@ use Rattle.book.specs.declared.positions.Position.{Position}
 use Rattle.book.specs.declared.accounts.Account.{Account}
 use Rattle.posting.specs.Records.{Mark, Opens, ClosesOld, ClosesNew, Trade, Pairing, Payment, Pledge, Request, Trading, PairingUp, Depositing, Withdrawing, Pledging, Nothing}
 use Rattle.posting.specs.Fills.{Party, Buyer, Seller, Way, Long, Short, wayOf, sideOn, withSide, pairedUp, dealt, enough, roomy, free}
-pub use Rattle.posting.specs.declared.accounts.Posted.{Posted}
-pub use Rattle.posting.specs.declared.accounts.Couple.{Couple}
-pub use Rattle.posting.specs.declared.accounts.BothPosted.{BothPosted}
 
 -- ---- the accounts after an accepted record
 
@@ -123,28 +120,6 @@ unfoldable pub pledgeAnswer : Pledge → Account → ℕ
 pledgeAnswer p a = firstOf (pledgeRules p a)
 
 -- ---- the outcome: 01's number, and the accounts where it is 0
-
--- what the code's answers stand for
-abbrev pub settled : ℕ → Account → Posted
-settled n a = onZero n (Posted.Done a) (Posted.Refused n)
-
-abbrev pub bothSettled : ℕ → Account → Account → BothPosted
-bothSettled n a b = onZero n (BothPosted.Done (record { first = a; second = b })) (BothPosted.Refused n)
-
-abbrev pub tradePosted : Trade → Account → Account → BothPosted
-tradePosted t a b = bothSettled (tradeAnswer t a b) (traded Buyer (t .buying) t a) (traded Seller (t .selling) t b)
-
-abbrev pub pairingPosted : Pairing → Account → Account → BothPosted
-pairingPosted p a b = bothSettled (pairingAnswer p a b) (pairedOn Long p a) (pairedOn Short p b)
-
-abbrev pub depositPosted : Payment → Account → Posted
-depositPosted p a = settled (depositAnswer p a) (deposited p a)
-
-abbrev pub withdrawalPosted : Payment → Account → Posted
-withdrawalPosted p a = settled (withdrawalAnswer p a) (withdrawn p a)
-
-abbrev pub pledgePosted : Pledge → Account → Posted
-pledgePosted p a = settled (pledgeAnswer p a) (pledged p a)
 
 -- a refusal makes nothing of the accounts
 abbrev pub outcome : ℕ → List Account → Posting Account ℕ ℕ

@@ -1,19 +1,15 @@
--- Within what ranges records and accounts of a valid book are posted, and the part of the trade's table that one function answers.
+-- 01, The book and Day records: within what ranges the records and the accounts of a valid book are posted.
+use Prim.{Unit}
 use Prim.Native.Nat.{ℕ, _*_, _^_, _≤_, _<_}
-use mathlib.Core.Path.{_≡_}
-use mathlib.Core.Bool.{true}
-use mathlib.Core.List.{List, [], _∷_}
 use mathlib.Core.Logic.{_≢_}
 use Rattle.numbers.specs.Range.{In}
-use Rattle.folds.specs.First.{Rule, _gives_}
 use Rattle.rules.specs.Ranges.{FiguresIn}
 use Rattle.book.specs.declared.heads.Head.{Head}
 use Rattle.book.specs.declared.positions.Position.{Position}
 use Rattle.book.specs.declared.accounts.Account.{Account}
 use Rattle.validity.specs.Totals.{SideIn}
 use Rattle.posting.specs.Records.{Trade, Pairing, Payment, Pledge}
-use Rattle.posting.specs.Fills.{Buyer, Seller}
-use Rattle.posting.specs.Postings.{fewer, beyond}
+use Rattle.posting.specs.Entries.{Entry, Buys, Sells, Receives, Delivers, PaysIn, TakesOut, Pledges}
 
 -- a position of a valid book
 pub record DealtIn (p : Position) : Type 0 where
@@ -55,11 +51,17 @@ pub record PledgeIn (h : Head) (p : Pledge) : Type 0 where
   pub market : In (10 ^ 15) (p .market .0)
   pub discount : p .discount ≤ 8_000
 
--- refusals 4 and 5 of a trade
-abbrev pub lotsRules : Trade → Account → Account → List Rule
-lotsRules t a b =
-    (fewer Buyer (t .buying) t a gives 4)
-    ∷ (fewer Seller (t .selling) t b gives 4)
-    ∷ (beyond Buyer (t .buying) t a gives 5)
-    ∷ (beyond Seller (t .selling) t b gives 5)
-    ∷ []
+-- what is known of an entry of such a record
+abbrev pub EntryIn : Entry → Type 0
+EntryIn (Buys t) = (t .price .0 ≤ 10_000_000) × (t .lots .0 ≤ 10_000)
+EntryIn (Sells t) = (t .price .0 ≤ 10_000_000) × (t .lots .0 ≤ 10_000)
+EntryIn (Receives p) = p .lots .0 ≤ 10_000
+EntryIn (Delivers p) = p .lots .0 ≤ 10_000
+EntryIn (PaysIn p) = In (10 ^ 12) (p .amount .0)
+EntryIn (TakesOut p) = In (10 ^ 12) (p .amount .0)
+EntryIn (Pledges p) = Unit {0}
+
+-- an entry and the account that it is posted to
+pub record PostedIn (a : Account) (e : Entry) : Type 0 where
+  pub account : AccountIn a
+  pub entry : EntryIn e

@@ -1,20 +1,25 @@
-// What a posting makes of the accounts that it is lent.
+// What a record asks of one account that it names, and what a posting makes of that account.
+use crate::records::Pairing;
+use crate::records::Payment;
+use crate::records::Pledge;
+use crate::records::Trade;
 use book::accounts::Account;
 
-// One account, or two.
-pub enum Posted {
-    Refused(u8),
-    Done(Account),
+// A trade and a pairing ask each of their two accounts for its own side.
+pub enum Entry {
+    Buys(Trade),
+    Sells(Trade),
+    Receives(Pairing),
+    Delivers(Pairing),
+    PaysIn(Payment),
+    TakesOut(Payment),
+    Pledges(Pledge),
 }
 
-pub struct Couple {
-    pub first: Account,
-    pub second: Account,
-}
-
-pub enum BothPosted {
-    Refused(u8),
-    Done(Couple),
+// The number, and the account as it stands then: as it stood, where the number is a refusal.
+pub struct Posted {
+    pub answer: u8,
+    pub account: Account,
 }
 
 // Which side of a position.

@@ -1,6 +1,5 @@
-// Each kind of request, decided by value over the accounts that it names: refused by number, or the accounts after it.
-use crate::accounts::BothPosted;
-use crate::accounts::Couple;
+// What a record asks of one account that it names, decided by value: refused by number, or the account after it.
+use crate::accounts::Entry;
 use crate::accounts::Party;
 use crate::accounts::Posted;
 use crate::accounts::Way;
@@ -20,10 +19,10 @@ ghost use mathlib.Core.Path.{_≡_};
 ghost use mathlib.Core.Bool.{true, cond};
 ghost use Prim.Native.Nat.{_^_, _≤_};
 ghost use Rattle.numbers.specs.Range.{In};
-ghost use Rattle.folds.specs.First.{firstOf};
 ghost use Rattle.posting.specs.Fills.{wayOf, sideOn, enough};
-ghost use Rattle.posting.specs.Postings.{counted, moved, traded, pairedOn, deposited, withdrawn, pledged, full, barred, above, fewer, beyond, scarce, tradeAnswer, pairingAnswer, withdrawalAnswer, tradePosted, pairingPosted, depositPosted, withdrawalPosted, pledgePosted};
-ghost use Rattle.posting.specs.Ranges.{AccountIn, lotsRules};
+ghost use Rattle.posting.specs.Postings.{counted, moved, traded, pairedOn, deposited, withdrawn, pledged, full, barred, above, fewer, beyond, scarce, depositAnswer, withdrawalAnswer, pledgeAnswer};
+ghost use Rattle.posting.specs.Entries.{sideAnswer, pairedAnswer, entryAnswer, entered, postedOf, lower};
+ghost use Rattle.posting.specs.Ranges.{AccountIn, EntryIn, PostedIn};
 
 // The first rule that holds: its number, else what the rest says.
 fn first(test: bool, number: u8, rest: u8) -> u8
@@ -93,37 +92,35 @@ fn scarce(way: Way, p: Pairing, a: Account) -> bool
     !fills::free(p.lots, fills::side_on(way, position))
 }
 
-fn lots_answer(t: Trade, a: Account, b: Account) -> u8
-    requires { ⌜ AccountIn a × AccountIn b × (t .lots .0 ≤ 10_000) ⌝ }
-    ensures { λ r. ⌜ r ≡ firstOf (lotsRules t a b) ⌝ }
+// The rules of one side of a trade.
+fn side_answer(party: Party, mark: Mark, t: Trade, a: Account) -> u8
+    requires { ⌜ AccountIn a × (t .lots .0 ≤ 10_000) ⌝ }
+    ensures { λ r. ⌜ r ≡ sideAnswer party mark t a ⌝ }
 {
-    let buying = t.buying;
-    let selling = t.selling;
-    let crowded = first(beyond(Party::Seller, selling, t, b), 5, 0);
-    let wide = first(beyond(Party::Buyer, buying, t, a), 5, crowded);
-    let lacking = first(fewer(Party::Seller, selling, t, b), 4, wide);
-    first(fewer(Party::Buyer, buying, t, a), 4, lacking)
+    let wide = first(beyond(party, mark, t, a), 5, 0);
+    let lacking = first(fewer(party, mark, t, a), 4, wide);
+    let poor = first(barred(mark, a), 3, lacking);
+    first(full(a), 2, poor)
 }
 
-fn trade_answer(t: Trade, a: Account, b: Account) -> u8
-    requires { ⌜ AccountIn a × AccountIn b × (t .lots .0 ≤ 10_000) ⌝ }
-    ensures { λ r. ⌜ r ≡ tradeAnswer t a b ⌝ }
+// The rules of one side of a pairing.
+fn pairing_answer(way: Way, p: Pairing, a: Account) -> u8
+    requires { ⌜ AccountIn a × (p .lots .0 ≤ 10_000) ⌝ }
+    ensures { λ r. ⌜ r ≡ pairedAnswer way p a ⌝ }
 {
-    let buying = t.buying;
-    let selling = t.selling;
-    let lots = lots_answer(t, a, b);
-    let poor = first(barred(selling, b), 3, lots);
-    let bare = first(barred(buying, a), 3, poor);
-    first(full(a), 2, first(full(b), 2, bare))
+    first(full(a), 2, first(scarce(way, p, a), 7, 0))
 }
 
-fn pairing_answer(p: Pairing, a: Account, b: Account) -> u8
-    requires { ⌜ AccountIn a × AccountIn b × (p .lots .0 ≤ 10_000) ⌝ }
-    ensures { λ r. ⌜ r ≡ pairingAnswer p a b ⌝ }
+fn deposit_answer(p: Payment, a: Account) -> u8
+    ensures { λ r. ⌜ r ≡ depositAnswer p a ⌝ }
 {
-    let lacking = first(scarce(Way::Short, p, b), 7, 0);
-    let scant = first(scarce(Way::Long, p, a), 7, lacking);
-    first(full(a), 2, first(full(b), 2, scant))
+    first(full(a), 2, 0)
+}
+
+fn pledge_answer(p: Pledge, a: Account) -> u8
+    ensures { λ r. ⌜ r ≡ pledgeAnswer p a ⌝ }
+{
+    first(full(a), 2, 0)
 }
 
 fn withdrawal_answer(p: Payment, a: Account) -> u8
@@ -223,63 +220,76 @@ fn pledged(p: Pledge, a: Account) -> Account
     after
 }
 
-pub fn post_trade(t: Trade, a: Account, b: Account) -> BothPosted
-    requires { ⌜ AccountIn a × AccountIn b × (t .price .0 ≤ 10_000_000) × (t .lots .0 ≤ 10_000) ⌝ }
-    ensures { λ r. ⌜ r ≡ tradePosted t a b ⌝ }
+// The first rule of an entry that holds of its account.
+fn answer_of(a: Account, e: Entry) -> u8
+    requires { ⌜ AccountIn a × EntryIn e ⌝ }
+    ensures { λ r. ⌜ r ≡ entryAnswer e a ⌝ }
 {
-    let n = trade_answer(t, a, b);
+    match e {
+        Entry::Buys(t) => {
+            let mark = t.buying;
+            side_answer(Party::Buyer, mark, t, a)
+        }
+        Entry::Sells(t) => {
+            let mark = t.selling;
+            side_answer(Party::Seller, mark, t, a)
+        }
+        Entry::Receives(p) => pairing_answer(Way::Long, p, a),
+        Entry::Delivers(p) => pairing_answer(Way::Short, p, a),
+        Entry::PaysIn(p) => deposit_answer(p, a),
+        Entry::TakesOut(p) => withdrawal_answer(p, a),
+        Entry::Pledges(p) => pledge_answer(p, a),
+    }
+}
+
+// The account after an entry that no rule refuses.
+fn entered(a: Account, e: Entry) -> Account
+    requires { ⌜ AccountIn a × EntryIn e × (entryAnswer e a ≡ 0) ⌝ }
+    ensures { λ r. ⌜ r ≡ entered e a ⌝ }
+{
+    match e {
+        Entry::Buys(t) => {
+            let mark = t.buying;
+            traded(Party::Buyer, mark, t, a)
+        }
+        Entry::Sells(t) => {
+            let mark = t.selling;
+            traded(Party::Seller, mark, t, a)
+        }
+        Entry::Receives(p) => paired_on(Way::Long, p, a),
+        Entry::Delivers(p) => paired_on(Way::Short, p, a),
+        Entry::PaysIn(p) => deposited(p, a),
+        Entry::TakesOut(p) => withdrawn(p, a),
+        Entry::Pledges(p) => pledged(p, a),
+    }
+}
+
+pub fn posting_of(a: Account, e: Entry) -> Posted
+    requires { ⌜ PostedIn a e ⌝ }
+    ensures { λ r. ⌜ r ≡ postedOf a e ⌝ }
+{
+    let n = answer_of(a, e);
     if n != 0 {
-        return BothPosted::Refused(n);
+        return Posted {
+            answer: n,
+            account: a,
+        };
     }
-    let buying = t.buying;
-    let selling = t.selling;
-    BothPosted::Done(Couple {
-        first: traded(Party::Buyer, buying, t, a),
-        second: traded(Party::Seller, selling, t, b),
-    })
+    Posted {
+        answer: 0,
+        account: entered(a, e),
+    }
 }
 
-pub fn post_pairing(p: Pairing, a: Account, b: Account) -> BothPosted
-    requires { ⌜ AccountIn a × AccountIn b × (p .lots .0 ≤ 10_000) ⌝ }
-    ensures { λ r. ⌜ r ≡ pairingPosted p a b ⌝ }
+// The answer to a record that names two accounts: the lower of their refusals.
+pub fn lower(m: u8, n: u8) -> u8
+    ensures { λ r. ⌜ r ≡ lower m n ⌝ }
 {
-    let n = pairing_answer(p, a, b);
-    if n != 0 {
-        return BothPosted::Refused(n);
+    if m == 0 {
+        return n;
     }
-    BothPosted::Done(Couple {
-        first: paired_on(Way::Long, p, a),
-        second: paired_on(Way::Short, p, b),
-    })
-}
-
-pub fn post_deposit(p: Payment, a: Account) -> Posted
-    requires { ⌜ AccountIn a × In (10 ^ 12) (p .amount .0) ⌝ }
-    ensures { λ r. ⌜ r ≡ depositPosted p a ⌝ }
-{
-    if full(a) {
-        return Posted::Refused(2);
+    if n == 0 {
+        return m;
     }
-    Posted::Done(deposited(p, a))
-}
-
-pub fn post_withdrawal(p: Payment, a: Account) -> Posted
-    requires { ⌜ AccountIn a × In (10 ^ 12) (p .amount .0) ⌝ }
-    ensures { λ r. ⌜ r ≡ withdrawalPosted p a ⌝ }
-{
-    let n = withdrawal_answer(p, a);
-    if n != 0 {
-        return Posted::Refused(n);
-    }
-    Posted::Done(withdrawn(p, a))
-}
-
-pub fn post_pledge(p: Pledge, a: Account) -> Posted
-    requires { ⌜ AccountIn a ⌝ }
-    ensures { λ r. ⌜ r ≡ pledgePosted p a ⌝ }
-{
-    if full(a) {
-        return Posted::Refused(2);
-    }
-    Posted::Done(pledged(p, a))
+    if m <= n { m } else { n }
 }
