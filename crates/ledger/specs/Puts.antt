@@ -1,4 +1,4 @@
--- A posting's outcome at the bytes: 01's number, and the accounts put back where it is 0.
+-- 01, Day records: a posting at the bytes. Its accounts are read from their places, and put back where the number is 0.
 use Prim.{Unit}
 use Prim.Native.Nat.{ℕ}
 use mathlib.Core.List.{List}
@@ -9,28 +9,28 @@ use Rattle.book.specs.declared.accounts.Account.{Account}
 use Rattle.book.specs.Accounts.{accountAt, putAccount}
 use Rattle.posting.specs.declared.records.Request.{Request}
 use Rattle.posting.specs.declared.records.Request.the-variants.{Trading, PairingUp, Depositing, Withdrawing, Pledging, Nothing}
-use Rattle.posting.specs.declared.accounts.Posted.{Posted}
-use Rattle.posting.specs.declared.accounts.BothPosted.{BothPosted}
 use Rattle.posting.specs.Records.{placesFor}
+use Rattle.folds.specs.First.{onZero}
 use Rattle.posting.specs.Postings.{postingOf}
+use Rattle.posting.specs.declared.accounts.Entry.{Entry}
+use Rattle.posting.specs.Entries.{entryAnswer, entered, lower}
 use Rattle.posting.specs.Answers.{accounts}
 use Rattle.posting.specs.Ranges.{TradeIn, PairingIn, PaymentIn, PledgeIn}
 
-abbrev pub numberOf : Posted → ℕ
-numberOf (Posted.Refused n) = n
-numberOf (Posted.Done a) = 0
+-- one account at its place, posted and put back
+abbrev pub oneAnswer : Head → List ℕ → Place → Entry → ℕ
+oneAnswer h xs p e = entryAnswer e (accountAt h xs p)
 
-abbrev pub putBack : Head → List ℕ → Place → Posted → List ℕ
-putBack h xs p (Posted.Refused n) = xs
-putBack h xs p (Posted.Done a) = putAccount h xs p a
+abbrev pub oneAfter : Head → List ℕ → Place → Entry → List ℕ
+oneAfter h xs p e = onZero (oneAnswer h xs p e) (putAccount h xs p (entered e (accountAt h xs p))) xs
 
-abbrev pub bothNumber : BothPosted → ℕ
-bothNumber (BothPosted.Refused n) = n
-bothNumber (BothPosted.Done c) = 0
+-- two accounts: the first refusal of either, or both put back
+abbrev pub twoAnswer : Head → List ℕ → Place → Entry → Place → Entry → ℕ
+twoAnswer h xs p e q f = lower (entryAnswer e (accountAt h xs p)) (entryAnswer f (accountAt h xs q))
 
-abbrev pub putBoth : Head → List ℕ → Place → Place → BothPosted → List ℕ
-putBoth h xs p q (BothPosted.Refused n) = xs
-putBoth h xs p q (BothPosted.Done c) = putAccount h (putAccount h xs p (c .first)) q (c .second)
+abbrev pub twoAfter : Head → List ℕ → Place → Entry → Place → Entry → List ℕ
+twoAfter h xs p e q f =
+    onZero (twoAnswer h xs p e q f) (putAccount h (putAccount h xs p (entered e (accountAt h xs p))) q (entered f (accountAt h xs q))) xs
 
 -- a request at the bytes of a valid book with the head h
 unfoldable pub saysTo : Head → List ℕ → Request → ℕ

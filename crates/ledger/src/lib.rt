@@ -1,53 +1,57 @@
-// Day records posted to the bytes of a book: the named accounts are read, decided by value, and put back within one call on the one book.
-use book::accounts::Account;
+// Day records posted to the bytes of a book: each named account is read, lent to its posting, and put back within one call on the one book.
 use book::accounts::Place;
 use book::heads::Head;
-use posting::accounts::BothPosted;
-use posting::accounts::Posted;
+use posting::accounts::Entry;
 use posting::records::Pairing;
-use posting::records::Payment;
-use posting::records::Pledge;
 use posting::records::Request;
 use posting::records::Trade;
 ghost use mathlib.Core.Path.{_≡_};
 ghost use mathlib.Core.Bool.{true};
 ghost use Rattle.book.specs.Heads.{headAt};
-ghost use Rattle.book.specs.Accounts.{Shaped, Within};
+ghost use Prim.Native.Nat.{_<_};
+ghost use Rattle.book.specs.Accounts.{place, Within};
 ghost use Rattle.validity.specs.Valid.{validBook};
-ghost use Rattle.posting.specs.Ranges.{TradeIn, PairingIn, PaymentIn, PledgeIn};
+ghost use Rattle.posting.specs.Ranges.{TradeIn, PairingIn, EntryIn};
 ghost use Rattle.posting.specs.Answers.{says, step, answer, after};
-ghost use Rattle.posting.specs.declared.records.Request.the-variants.{Trading, PairingUp, Depositing, Withdrawing, Pledging};
-ghost use Rattle.ledger.specs.Puts.{numberOf, putBack, bothNumber, putBoth, saysTo, stepTo, RequestIn};
+ghost use Rattle.posting.specs.declared.records.Request.the-variants.{Trading, PairingUp};
+ghost use Rattle.ledger.specs.Puts.{oneAnswer, oneAfter, twoAnswer, twoAfter, saysTo, stepTo, RequestIn};
 
-fn put_back(s: &mut [u8], h: Head, p: Place, posted: Posted) -> u8
-    requires { ⌜ Shaped (now s) h × Within h p ⌝ }
-    ensures { λ n. ⌜ n ≡ numberOf posted ⌝ }
-    ensures { λ _. ⌜ now (s .exit) ≡ putBack h (now (s .entry)) p posted ⌝ }
+// One account: read from its place, lent to the posting, and put back where no rule refuses.
+fn post_one(s: &mut [u8], h: Head, p: Place, e: Entry) -> u8
+    requires { ⌜ (validBook (now s) ≡ true) × (h ≡ headAt (now s)) × Within h p × EntryIn e ⌝ }
+    ensures { λ n. ⌜ n ≡ oneAnswer h (now (s .entry)) p e ⌝ }
+    ensures { λ _. ⌜ now (s .exit) ≡ oneAfter h (now (s .entry)) p e ⌝ }
 {
-    match posted {
-        Posted::Refused(n) => n,
-        Posted::Done(a) => {
-            book::accounts::put_account(s, h, p, a);
-            0
-        }
+    let a = book::accounts::account_at(s, h, p);
+    let posted = posting::lending::lent(a, e);
+    let n = posted.answer;
+    if n != 0 {
+        return n;
     }
+    let after = posted.account;
+    book::accounts::put_account(s, h, p, after);
+    0
 }
 
-fn put_both(s: &mut [u8], h: Head, p: Place, q: Place, posted: BothPosted) -> u8
-    requires { ⌜ Shaped (now s) h × Within h p × Within h q ⌝ }
-    ensures { λ n. ⌜ n ≡ bothNumber posted ⌝ }
-    ensures { λ _. ⌜ now (s .exit) ≡ putBoth h (now (s .entry)) p q posted ⌝ }
+// Two accounts: each lent by itself, and both put back where neither refuses.
+fn post_two(s: &mut [u8], h: Head, p: Place, e: Entry, q: Place, f: Entry) -> u8
+    requires { ⌜ (validBook (now s) ≡ true) × (h ≡ headAt (now s)) × Within h p × EntryIn e × Within h q × EntryIn f ⌝ }
+    ensures { λ n. ⌜ n ≡ twoAnswer h (now (s .entry)) p e q f ⌝ }
+    ensures { λ _. ⌜ now (s .exit) ≡ twoAfter h (now (s .entry)) p e q f ⌝ }
 {
-    match posted {
-        BothPosted::Refused(n) => n,
-        BothPosted::Done(c) => {
-            let first = c.first;
-            let second = c.second;
-            book::accounts::put_account(s, h, p, first);
-            book::accounts::put_account(s, h, q, second);
-            0
-        }
+    let a = book::accounts::account_at(s, h, p);
+    let b = book::accounts::account_at(s, h, q);
+    let first = posting::lending::lent(a, e);
+    let second = posting::lending::lent(b, f);
+    let n = posting::postings::lower(first.answer, second.answer);
+    if n != 0 {
+        return n;
     }
+    let one = first.account;
+    let other = second.account;
+    book::accounts::put_account(s, h, p, one);
+    book::accounts::put_account(s, h, q, other);
+    0
 }
 
 fn post_trade(s: &mut [u8], h: Head, t: Trade) -> u8
@@ -63,10 +67,7 @@ fn post_trade(s: &mut [u8], h: Head, t: Trade) -> u8
         member: t.seller,
         contract: t.contract,
     };
-    let a = book::accounts::account_at(s, h, buyer);
-    let b = book::accounts::account_at(s, h, seller);
-    let posted = posting::postings::post_trade(t, a, b);
-    put_both(s, h, buyer, seller, posted)
+    post_two(s, h, buyer, Entry::Buys(t), seller, Entry::Sells(t))
 }
 
 fn post_pairing(s: &mut [u8], h: Head, p: Pairing) -> u8
@@ -82,53 +83,20 @@ fn post_pairing(s: &mut [u8], h: Head, p: Pairing) -> u8
         member: p.seller,
         contract: p.contract,
     };
-    let a = book::accounts::account_at(s, h, buyer);
-    let b = book::accounts::account_at(s, h, seller);
-    let posted = posting::postings::post_pairing(p, a, b);
-    put_both(s, h, buyer, seller, posted)
+    post_two(s, h, buyer, Entry::Receives(p), seller, Entry::Delivers(p))
 }
 
 // A record without a contract carries the member's row in contract 0 through unchanged.
-fn post_deposit(s: &mut [u8], h: Head, p: Payment) -> u8
-    requires { ⌜ (validBook (now s) ≡ true) × (h ≡ headAt (now s)) × PaymentIn h p ⌝ }
-    ensures { λ n. ⌜ n ≡ saysTo h (now (s .entry)) (Depositing p) ⌝ }
-    ensures { λ _. ⌜ now (s .exit) ≡ stepTo h (now (s .entry)) (Depositing p) ⌝ }
+fn post_alone(s: &mut [u8], h: Head, member: usize, e: Entry) -> u8
+    requires { ⌜ (validBook (now s) ≡ true) × (h ≡ headAt (now s)) × (member < h .members) × EntryIn e ⌝ }
+    ensures { λ n. ⌜ n ≡ oneAnswer h (now (s .entry)) (place member 0) e ⌝ }
+    ensures { λ _. ⌜ now (s .exit) ≡ oneAfter h (now (s .entry)) (place member 0) e ⌝ }
 {
-    let member = Place {
-        member: p.member,
+    let p = Place {
+        member,
         contract: 0,
     };
-    let a = book::accounts::account_at(s, h, member);
-    let posted = posting::postings::post_deposit(p, a);
-    put_back(s, h, member, posted)
-}
-
-fn post_withdrawal(s: &mut [u8], h: Head, p: Payment) -> u8
-    requires { ⌜ (validBook (now s) ≡ true) × (h ≡ headAt (now s)) × PaymentIn h p ⌝ }
-    ensures { λ n. ⌜ n ≡ saysTo h (now (s .entry)) (Withdrawing p) ⌝ }
-    ensures { λ _. ⌜ now (s .exit) ≡ stepTo h (now (s .entry)) (Withdrawing p) ⌝ }
-{
-    let member = Place {
-        member: p.member,
-        contract: 0,
-    };
-    let a = book::accounts::account_at(s, h, member);
-    let posted = posting::postings::post_withdrawal(p, a);
-    put_back(s, h, member, posted)
-}
-
-fn post_pledge(s: &mut [u8], h: Head, p: Pledge) -> u8
-    requires { ⌜ (validBook (now s) ≡ true) × (h ≡ headAt (now s)) × PledgeIn h p ⌝ }
-    ensures { λ n. ⌜ n ≡ saysTo h (now (s .entry)) (Pledging p) ⌝ }
-    ensures { λ _. ⌜ now (s .exit) ≡ stepTo h (now (s .entry)) (Pledging p) ⌝ }
-{
-    let member = Place {
-        member: p.member,
-        contract: 0,
-    };
-    let a = book::accounts::account_at(s, h, member);
-    let posted = posting::postings::post_pledge(p, a);
-    put_back(s, h, member, posted)
+    post_one(s, h, p, e)
 }
 
 fn post_request(s: &mut [u8], h: Head, q: Request) -> u8
@@ -139,9 +107,9 @@ fn post_request(s: &mut [u8], h: Head, q: Request) -> u8
     match q {
         Request::Trading(t) => post_trade(s, h, t),
         Request::PairingUp(p) => post_pairing(s, h, p),
-        Request::Depositing(p) => post_deposit(s, h, p),
-        Request::Withdrawing(p) => post_withdrawal(s, h, p),
-        Request::Pledging(p) => post_pledge(s, h, p),
+        Request::Depositing(p) => post_alone(s, h, p.member, Entry::PaysIn(p)),
+        Request::Withdrawing(p) => post_alone(s, h, p.member, Entry::TakesOut(p)),
+        Request::Pledging(p) => post_alone(s, h, p.member, Entry::Pledges(p)),
         Request::Nothing => 1,
     }
 }

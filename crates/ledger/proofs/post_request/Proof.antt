@@ -1,8 +1,9 @@
 -- By the request.
-use mathlib.Core.Path.{_≡_, refl, sym, ap, ap₂, _∙_}
-use mathlib.Core.Path.{subst}
+use Prim.{tt}
+use mathlib.Core.Path.{_≡_, refl, sym, ap, subst, _∙_}
 use Rattle.posting.specs.declared.records.Request.{Request}
 use Rattle.ledger.specs.Puts.{saysTo, stepTo, RequestIn}
+use Rattle.ledger.proofs.Outcomes.{deposit-says, deposit-steps, withdrawal-says, withdrawal-steps, pledge-says, pledge-steps}
 use borrow.Author.Needs.{needs}
 use Rattle.ledger.proofs.post_request.Statement.{statement}
 use Rattle.ledger.proofs.post_request.Tie as tie
@@ -11,31 +12,31 @@ enum-known-q : tie.Need-enum-known-q
 enum-known-q c = search needs
 
 post-trade-requires : tie.Need-post-trade-requires
-post-trade-requires c κs = (c .before .before .before .before .before .pre .0, c .before .before .before .before .before .pre .1, subst (λ (x : Request). RequestIn (c .before .before .before .before .before .args .h) x) (c .before .before .q .given .1) (c .before .before .before .before .before .pre .2))
+post-trade-requires c κs = (c .before .before .before .before .before .pre .0, c .before .before .before .before .before .pre .1, subst (RequestIn (c .before .before .before .before .before .args .h)) (c .before .before .q .given .1) (c .before .before .before .before .before .pre .2))
 
 enum-known-q-2 : tie.Need-enum-known-q-2
 enum-known-q-2 c = search needs
 
 post-pairing-requires : tie.Need-post-pairing-requires
-post-pairing-requires c κs = (c .before .before .before .before .before .pre .0, c .before .before .before .before .before .pre .1, subst (λ (x : Request). RequestIn (c .before .before .before .before .before .args .h) x) (c .before .before .q2 .given .1) (c .before .before .before .before .before .pre .2))
+post-pairing-requires c κs = (c .before .before .before .before .before .pre .0, c .before .before .before .before .before .pre .1, subst (RequestIn (c .before .before .before .before .before .args .h)) (c .before .before .q2 .given .1) (c .before .before .before .before .before .pre .2))
 
 enum-known-q-3 : tie.Need-enum-known-q-3
 enum-known-q-3 c = search needs
 
-post-deposit-requires : tie.Need-post-deposit-requires
-post-deposit-requires c κs = (c .before .before .before .before .before .pre .0, c .before .before .before .before .before .pre .1, subst (λ (x : Request). RequestIn (c .before .before .before .before .before .args .h) x) (c .before .before .q3 .given .1) (c .before .before .before .before .before .pre .2))
+post-alone-requires : tie.Need-post-alone-requires
+post-alone-requires c κs = let known = subst (RequestIn (c .before .before .before .before .before .args .h)) (c .before .before .q3 .given .1) (c .before .before .before .before .before .pre .2) in (c .before .before .before .before .before .pre .0, c .before .before .before .before .before .pre .1, known .member, known .amount)
 
 enum-known-q-4 : tie.Need-enum-known-q-4
 enum-known-q-4 c = search needs
 
-post-withdrawal-requires : tie.Need-post-withdrawal-requires
-post-withdrawal-requires c κs = (c .before .before .before .before .before .pre .0, c .before .before .before .before .before .pre .1, subst (λ (x : Request). RequestIn (c .before .before .before .before .before .args .h) x) (c .before .before .q4 .given .1) (c .before .before .before .before .before .pre .2))
+post-alone-requires-2 : tie.Need-post-alone-requires-2
+post-alone-requires-2 c κs = let known = subst (RequestIn (c .before .before .before .before .before .args .h)) (c .before .before .q4 .given .1) (c .before .before .before .before .before .pre .2) in (c .before .before .before .before .before .pre .0, c .before .before .before .before .before .pre .1, known .member, known .amount)
 
 enum-known-q-5 : tie.Need-enum-known-q-5
 enum-known-q-5 c = search needs
 
-post-pledge-requires : tie.Need-post-pledge-requires
-post-pledge-requires c κs = (c .before .before .before .before .before .pre .0, c .before .before .before .before .before .pre .1, subst (λ (x : Request). RequestIn (c .before .before .before .before .before .args .h) x) (c .before .before .q5 .given .1) (c .before .before .before .before .before .pre .2))
+post-alone-requires-3 : tie.Need-post-alone-requires-3
+post-alone-requires-3 c κs = let known = subst (RequestIn (c .before .before .before .before .before .args .h)) (c .before .before .q5 .given .1) (c .before .before .before .before .before .pre .2) in (c .before .before .before .before .before .pre .0, c .before .before .before .before .before .pre .1, known .member, tt)
 
 enum-told : tie.Need-enum-told
 enum-told c = search needs
@@ -44,31 +45,36 @@ same-length : tie.Need-same-length
 same-length c = search needs
 
 returns : tie.Need-returns
-returns c = (c .before .before .post-trade .ensures .0 ∙ sym (ap (saysTo (c .before .before .before .before .before .before .before .before .args .h) (c .before .before .before .before .before .before .before .before .args .s .now)) (c .before .before .before .before .before .q .given .1)), c .before .before .post-trade .ensures .1 ∙ sym (ap (stepTo (c .before .before .before .before .before .before .before .before .args .h) (c .before .before .before .before .before .before .before .before .args .s .now)) (c .before .before .before .before .before .q .given .1)))
+returns c =
+    (c .before .before .post-trade .ensures .0 ∙ sym (ap (saysTo (c .before .before .before .before .before .before .before .before .args .h) (c .before .before .before .before .before .before .before .before .args .s .now)) (c .before .before .before .before .before .q .given .1)), c .before .before .post-trade .ensures .1 ∙ sym (ap (stepTo (c .before .before .before .before .before .before .before .before .args .h) (c .before .before .before .before .before .before .before .before .args .s .now)) (c .before .before .before .before .before .q .given .1)))
 
 same-length-2 : tie.Need-same-length-2
 same-length-2 c = search needs
 
 returns-2 : tie.Need-returns-2
-returns-2 c = (c .before .before .post-pairing .ensures .0 ∙ sym (ap (saysTo (c .before .before .before .before .before .before .before .before .args .h) (c .before .before .before .before .before .before .before .before .args .s .now)) (c .before .before .before .before .before .q2 .given .1)), c .before .before .post-pairing .ensures .1 ∙ sym (ap (stepTo (c .before .before .before .before .before .before .before .before .args .h) (c .before .before .before .before .before .before .before .before .args .s .now)) (c .before .before .before .before .before .q2 .given .1)))
+returns-2 c =
+    (c .before .before .post-pairing .ensures .0 ∙ sym (ap (saysTo (c .before .before .before .before .before .before .before .before .args .h) (c .before .before .before .before .before .before .before .before .args .s .now)) (c .before .before .before .before .before .q2 .given .1)), c .before .before .post-pairing .ensures .1 ∙ sym (ap (stepTo (c .before .before .before .before .before .before .before .before .args .h) (c .before .before .before .before .before .before .before .before .args .s .now)) (c .before .before .before .before .before .q2 .given .1)))
 
 same-length-3 : tie.Need-same-length-3
 same-length-3 c = search needs
 
 returns-3 : tie.Need-returns-3
-returns-3 c = (c .before .before .post-deposit .ensures .0 ∙ sym (ap (saysTo (c .before .before .before .before .before .before .before .before .args .h) (c .before .before .before .before .before .before .before .before .args .s .now)) (c .before .before .before .before .before .q3 .given .1)), c .before .before .post-deposit .ensures .1 ∙ sym (ap (stepTo (c .before .before .before .before .before .before .before .before .args .h) (c .before .before .before .before .before .before .before .before .args .s .now)) (c .before .before .before .before .before .q3 .given .1)))
+returns-3 c =
+    (c .before .before .post-alone .ensures .0 ∙ sym (deposit-says (c .before .before .before .before .before .before .before .before .args .h) (c .before .before .before .before .before .before .before .before .args .s .now) (c .before .before .before .before .before .q3 .given .0 .0)) ∙ sym (ap (saysTo (c .before .before .before .before .before .before .before .before .args .h) (c .before .before .before .before .before .before .before .before .args .s .now)) (c .before .before .before .before .before .q3 .given .1)), c .before .before .post-alone .ensures .1 ∙ sym (deposit-steps (c .before .before .before .before .before .before .before .before .args .h) (c .before .before .before .before .before .before .before .before .args .s .now) (c .before .before .before .before .before .q3 .given .0 .0)) ∙ sym (ap (stepTo (c .before .before .before .before .before .before .before .before .args .h) (c .before .before .before .before .before .before .before .before .args .s .now)) (c .before .before .before .before .before .q3 .given .1)))
 
 same-length-4 : tie.Need-same-length-4
 same-length-4 c = search needs
 
 returns-4 : tie.Need-returns-4
-returns-4 c = (c .before .before .post-withdrawal .ensures .0 ∙ sym (ap (saysTo (c .before .before .before .before .before .before .before .before .args .h) (c .before .before .before .before .before .before .before .before .args .s .now)) (c .before .before .before .before .before .q4 .given .1)), c .before .before .post-withdrawal .ensures .1 ∙ sym (ap (stepTo (c .before .before .before .before .before .before .before .before .args .h) (c .before .before .before .before .before .before .before .before .args .s .now)) (c .before .before .before .before .before .q4 .given .1)))
+returns-4 c =
+    (c .before .before .post-alone2 .ensures .0 ∙ sym (withdrawal-says (c .before .before .before .before .before .before .before .before .args .h) (c .before .before .before .before .before .before .before .before .args .s .now) (c .before .before .before .before .before .q4 .given .0 .0)) ∙ sym (ap (saysTo (c .before .before .before .before .before .before .before .before .args .h) (c .before .before .before .before .before .before .before .before .args .s .now)) (c .before .before .before .before .before .q4 .given .1)), c .before .before .post-alone2 .ensures .1 ∙ sym (withdrawal-steps (c .before .before .before .before .before .before .before .before .args .h) (c .before .before .before .before .before .before .before .before .args .s .now) (c .before .before .before .before .before .q4 .given .0 .0)) ∙ sym (ap (stepTo (c .before .before .before .before .before .before .before .before .args .h) (c .before .before .before .before .before .before .before .before .args .s .now)) (c .before .before .before .before .before .q4 .given .1)))
 
 same-length-5 : tie.Need-same-length-5
 same-length-5 c = search needs
 
 returns-5 : tie.Need-returns-5
-returns-5 c = (c .before .before .post-pledge .ensures .0 ∙ sym (ap (saysTo (c .before .before .before .before .before .before .before .before .args .h) (c .before .before .before .before .before .before .before .before .args .s .now)) (c .before .before .before .before .before .q5 .given .1)), c .before .before .post-pledge .ensures .1 ∙ sym (ap (stepTo (c .before .before .before .before .before .before .before .before .args .h) (c .before .before .before .before .before .before .before .before .args .s .now)) (c .before .before .before .before .before .q5 .given .1)))
+returns-5 c =
+    (c .before .before .post-alone3 .ensures .0 ∙ sym (pledge-says (c .before .before .before .before .before .before .before .before .args .h) (c .before .before .before .before .before .before .before .before .args .s .now) (c .before .before .before .before .before .q5 .given .0 .0)) ∙ sym (ap (saysTo (c .before .before .before .before .before .before .before .before .args .h) (c .before .before .before .before .before .before .before .before .args .s .now)) (c .before .before .before .before .before .q5 .given .1)), c .before .before .post-alone3 .ensures .1 ∙ sym (pledge-steps (c .before .before .before .before .before .before .before .before .args .h) (c .before .before .before .before .before .before .before .before .args .s .now) (c .before .before .before .before .before .q5 .given .0 .0)) ∙ sym (ap (stepTo (c .before .before .before .before .before .before .before .before .args .h) (c .before .before .before .before .before .before .before .before .args .s .now)) (c .before .before .before .before .before .q5 .given .1)))
 
 returns-6 : tie.Need-returns-6
 unfolding saysTo stepTo
@@ -83,11 +89,11 @@ post-request-spec =
     enum-known-q-2
     post-pairing-requires
     enum-known-q-3
-    post-deposit-requires
+    post-alone-requires
     enum-known-q-4
-    post-withdrawal-requires
+    post-alone-requires-2
     enum-known-q-5
-    post-pledge-requires
+    post-alone-requires-3
     enum-told
     same-length
     returns
