@@ -1,4 +1,4 @@
--- A posting's outcome at the bytes: 01's number, and the accounts put back where it is 0.
+-- 01, Refusal numbers: a posting's outcome at the bytes, the number and the accounts put back where it is 0.
 use Prim.{Unit}
 use Prim.Native.Nat.{ℕ}
 use mathlib.Core.List.{List}

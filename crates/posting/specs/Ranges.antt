@@ -1,4 +1,4 @@
--- Within what ranges records and accounts of a valid book are posted, and the part of the trade's table that one function answers.
+-- 01, The book and Day records: within what ranges records and accounts of a valid book are posted, and the part of the trade's table that one function answers.
 use Prim.Native.Nat.{ℕ, _*_, _^_, _≤_, _<_}
 use mathlib.Core.Path.{_≡_}
 use mathlib.Core.Bool.{true}
