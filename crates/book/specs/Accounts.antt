@@ -1,4 +1,4 @@
--- An account: what one member is to one record, its row and its row in the record's contract.
+-- 01, Day records: an account, what one member is to one record: its row and its row in the record's contract.
 use Prim.Native.Nat.{ℕ, _≤_, _<_}
 use mathlib.Core.List.{List}
 use mathlib.Core.Logic.{_≢_}

@@ -1,4 +1,4 @@
--- The book that the bytes say: its rows as functions of the place. What stands beyond the head's counts is never asked for.
+-- 01, The book: what the bytes say, its rows as functions of the place. What stands beyond the head's counts is never asked for.
 use Prim.Native.Nat.{ℕ}
 use mathlib.Core.List.{List}
 use Rattle.book.specs.Layout.{contractOff, memberOff, positionOff}

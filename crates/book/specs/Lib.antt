@@ -1,3 +1,4 @@
+-- 01, The book: its layout, its rows and the account.
 pub mod Layout
 pub mod Heads
 pub mod Contracts

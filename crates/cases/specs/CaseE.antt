@@ -1,4 +1,4 @@
--- Case E, whole: contract 500,000, multiplier 10, rate 500, fee 300, delivery fee 100; margins 2,500,000, no securities; prices 505,000 and 0.
+-- 01, The evening program, Case E, whole: contract 500,000, multiplier 10, rate 500, fee 300, delivery fee 100; margins 2,500,000, no securities; prices 505,000 and 0.
 -- Member 1 buys 4 from member 0 at 510,000, both closing old lots.
 use mathlib.Core.List.{List, [], _∷_, _++_}
 use Prim.Native.Nat.{ℕ}

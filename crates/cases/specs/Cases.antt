@@ -1,4 +1,4 @@
--- Document 01, "Examples on both sides": every case marked *, the delivery of two paired lots, and case E.
+-- 01, Examples on both sides: every case marked *, the delivery of two paired lots, and case E.
 use mathlib.Core.List.{List, [], _∷_, _++_}
 use lib.ListN.{replicate}
 use lib.IntN.{pos}

@@ -1,4 +1,4 @@
--- A row of the table: what the rules give, and the figure that document 01 gives.
+-- 01, Examples on both sides: a row of the table, what the rules give and the figure that the document gives.
 use mathlib.Core.Bool.{Bool, true, false, not, _&&_}
 use mathlib.Core.List.{List, [], _∷_}
 use Prim.Native.Nat.{ℕ}

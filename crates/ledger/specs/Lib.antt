@@ -1,1 +1,2 @@
+-- 01, Refusal numbers: a posting's outcome at the bytes.
 pub mod Puts

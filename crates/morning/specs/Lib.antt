@@ -1,1 +1,2 @@
+-- 01, Case E, as bytes.
 pub mod CaseE

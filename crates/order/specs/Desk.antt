@@ -1,4 +1,4 @@
--- A small desk, to show that what the theorem asks for can be met: accounts that hold a sum each, and one counter of all that was moved.
+-- 01, demand 3: a small desk, to show that what the theorem asks for can be met: accounts that hold a sum each, and one counter of all that was moved.
 use mathlib.Core.Path.{_≡_}
 use mathlib.Core.Bool.{cond}
 use mathlib.Core.List.{List, [], _∷_, List·Memᴰ}

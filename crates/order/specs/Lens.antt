@@ -1,4 +1,4 @@
--- A posting over any state: it reads the places that its record names, puts them back changed, and adds to counters that no posting reads.
+-- 01, Day records and demand 3: a posting over any state. It reads the places that its record names, puts them back changed, and adds to counters that no posting reads.
 use mathlib.Core.Path.{_≡_}
 use mathlib.Core.List.{List, [], _∷_}
 

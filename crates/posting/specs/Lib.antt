@@ -1,3 +1,4 @@
+-- 01, Day records, and Refusal numbers 1 to 7 and 10.
 pub mod Records
 pub mod Fills
 pub mod Postings

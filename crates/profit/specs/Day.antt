@@ -1,4 +1,4 @@
--- A member's day in one contract, lot by lot, and the sums that the book keeps of it.
+-- 000, article 31, and 01, The book: a member's day in one contract, lot by lot, and the sums that the book keeps of it.
 use mathlib.Core.List.{List, map}
 use Prim.Native.Nat.{_+_, _-_, _≤_}
 use lib.IntN.{ℤ, pos, _+ℤ_, _-ℤ_}

@@ -1,2 +1,3 @@
+-- 000, article 31.
 pub mod Day
 pub mod Article31

@@ -1,4 +1,4 @@
--- A member's profit or loss of a day over all contracts: by article 31 from the accepted records, and from the book at the end of the day.
+-- 000, article 31: a member's profit or loss of a day over all contracts, from the accepted records by the article, and from the book at the end of the day.
 use Prim.Native.Nat.{ℕ, _<_}
 use mathlib.Core.Path.{_≡_}
 use mathlib.Core.List.{List}

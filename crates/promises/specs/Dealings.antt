@@ -1,4 +1,4 @@
--- What the accepted records of a day ask of one member in one contract, read off the records and their answers alone, and that member's day in the terms of article 31.
+-- 01, Day records, and 000, article 31: what the accepted records of a day ask of one member in one contract, read off the records and their answers alone, and that member's day in the article's terms.
 use Prim.Native.Nat.{ℕ, _+_, _≤_}
 use mathlib.Core.Path.{_≡_}
 use mathlib.Core.Bool.{Bool, true, false, cond, _&&_}

@@ -1,4 +1,4 @@
--- Whom a record names in a book, and in which contract; and when two records name a common member.
+-- 01, Day records: whom a record names in a book, and in which contract; and when two records name a common member.
 use Prim.Native.Nat.{ℕ}
 use mathlib.Core.List.{List, List·Memᴰ}
 use Rattle.book.specs.Heads.{headAt}

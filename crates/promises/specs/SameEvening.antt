@@ -1,4 +1,4 @@
--- Demand 3, the evening: settlement of the books that two lists of records end in, at equal prices and with equal buffers lent.
+-- 01, demand 3, the evening: settlement of the books that two lists of records end in, at equal prices and with equal buffers lent.
 use Prim.Native.Nat.{ℕ}
 use mathlib.Core.Path.{_≡_}
 use mathlib.Core.List.{List}

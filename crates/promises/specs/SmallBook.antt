@@ -1,4 +1,4 @@
--- A whole small book of 280 bytes and records of every kind, with what is to come of them: written out byte by byte from 01's layout.
+-- 01, The book and Day records: a whole small book of 280 bytes and records of every kind, with what is to come of them, written out byte by byte from the layout.
 use Prim.Native.Nat.{ℕ}
 use mathlib.Core.List.{List, [], _∷_, _++_}
 

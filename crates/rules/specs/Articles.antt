@@ -1,4 +1,4 @@
--- Two articles of 000 as they stand there, to be set beside the rules, and what rounding up and down mean. proofs/Articles.antt has that they agree.
+-- 000, articles 33 and 37, as they stand there, to be set beside the rules, and what rounding up and down mean. proofs/Articles.antt has that they agree.
 use mathlib.Core.Bool.{cond}
 use Prim.Native.Nat.{ℕ, _+_, _*_, _≤_, _<_}
 use lib.IntN.{pos, _+ℤ_, _-ℤ_}

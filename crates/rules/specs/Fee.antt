@@ -1,4 +1,4 @@
--- The fee of one contract.
+-- 000, articles 27 and 47: the fee of one contract.
 use Prim.Native.Nat.{ℕ, _+_, _*_}
 use lib.IntN.{pos}
 use Rattle.rules.specs.Units.{Fen, fen, Lots, Sides}

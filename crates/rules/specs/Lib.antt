@@ -1,3 +1,4 @@
+-- 01, Units, Money rules and Evening settlement, with their articles of 000.
 pub mod Units
 pub mod Ranges
 pub mod Members

@@ -1,4 +1,4 @@
--- The margin of one contract.
+-- 000, articles 25 and 26: the margin of one contract.
 use Prim.Native.Nat.{ℕ, _+_, _-_, _*_, _/_, max}
 use lib.IntN.{pos}
 use Rattle.rules.specs.Units.{Fen, fen, Lots, lots, Price, Sides}

@@ -1,4 +1,4 @@
--- What a member's kind asks of its reserve.
+-- 000, articles 23 and 34: what a member's kind asks of its reserve.
 use mathlib.Core.Bool.{cond}
 use Prim.Native.Nat.{ℕ}
 use lib.IntN.{pos, _-ℤ_}

@@ -1,4 +1,4 @@
--- A member's money, and what of it may go out.
+-- 000, articles 22, 35 to 37 and 57: a member's money, and what of it may go out.
 use lib.IntN.{pos, _+ℤ_, _-ℤ_}
 use lib.Signed.{quotZ}
 use Rattle.numbers.specs.Choice.{largerOf}

@@ -1,4 +1,4 @@
--- Tonight's figures: the sum of 000, article 33, in steps, since usable goes by tonight's money.
+-- 000, article 33: tonight's figures, the article's sum in steps, since usable goes by tonight's money.
 use lib.IntN.{_+ℤ_, _-ℤ_}
 use Rattle.rules.specs.Units.{Fen, fen, Figures, Movements}
 use Rattle.rules.specs.Money.{moneyOf}

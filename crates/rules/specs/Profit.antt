@@ -1,4 +1,4 @@
--- The profit or loss of one contract, from the sums that the book keeps of it.
+-- 000, articles 31 and 50: the profit or loss of one contract, from the sums that the book keeps of it.
 use Prim.Native.Nat.{ℕ}
 use lib.IntN.{ℤ, pos, _+ℤ_, _-ℤ_, _*ℤ_}
 use Rattle.rules.specs.Units.{Fen, fen, Sides, Prices}

@@ -1,4 +1,4 @@
--- Within what ranges the rules are computed: those of a valid book, and for tonight's money and reserve what they can come to before refusal 9 is tried.
+-- 01, The book: within what ranges the rules are computed: those of a valid book, and for tonight's money and reserve what they can come to before refusal 9 is tried.
 use Prim.Native.Nat.{ℕ, _*_, _^_, _≤_}
 use lib.IntN.{pos}
 use lib.Signed.{_≤ℤ_}

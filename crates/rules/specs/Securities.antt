@@ -1,4 +1,4 @@
--- What a member's securities count for.
+-- 000, articles 56 and 57: what a member's securities count for.
 use mathlib.Core.Bool.{cond}
 use Prim.Native.Nat.{ℕ}
 use lib.IntN.{pos, _*ℤ_}

@@ -1,4 +1,4 @@
--- Lots, prices and fen, named apart: a count of lots is never taken where fen are due.
+-- 01, Units: lots, prices and fen, named apart: a count of lots is never taken where fen are due.
 use Prim.Native.Nat.{ℕ}
 use lib.IntN.{ℤ}
 pub use Rattle.rules.specs.declared.units.Fen.{Fen}

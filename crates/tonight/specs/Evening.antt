@@ -1,4 +1,4 @@
--- What is known once the book is valid and the prices have passed, and the ranges that follow.
+-- 01, Evening settlement: what is known once the book is valid and the prices have passed, and the ranges that follow.
 use Prim.Native.Nat.{ℕ, _*_, _^_, _≤_, _<_}
 use mathlib.Core.List.{List}
 use lib.ListN.{length}

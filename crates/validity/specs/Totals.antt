@@ -1,4 +1,4 @@
--- A contract's sums, gathered row by row, and within what ranges.
+-- 01, The book: a contract's sums, gathered row by row, and within what ranges.
 use Prim.Native.Nat.{ℕ, _+_, _*_, _^_, _≤_}
 use mathlib.Core.Path.{_≡_}
 use mathlib.Core.Bool.{true}
