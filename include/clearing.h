@@ -8,8 +8,9 @@
  * byte and its length in bytes; the pointer is not null, even where the length
  * is 0, and need not be aligned. The library holds no memory of its own, keeps
  * no pointer and no state between calls, and touches nothing beyond the lengths.
- * Nobody may write to lent memory while a call runs. Calls on memory of their
- * own may run at the same time.
+ * Nobody may write to lent memory while a call runs, and memory lent for writing
+ * overlaps no other lent to the same call. Calls on memory of their own may run
+ * at the same time.
  *
  * Beyond that no function asks anything of its caller: any bytes may be lent.
  *
@@ -35,7 +36,7 @@
  *   11  lent room for the next book or the results too short
  *
  * The first that holds counts: for a record 10, 1, 2, then those of its kind by
- * rising number; for a settlement 10, 8, 11, 9. Memory lent for writing overlaps no other lent to the same call.
+ * rising number; for a settlement 10, 8, 11, 9.
  */
 #ifndef CLEARING_H
 #define CLEARING_H

@@ -1,4 +1,4 @@
-//! Document 01's examples of records, run through the library.
+//! Document 01's examples of records and of delivery, run through the library.
 
 #[path = "../../second/tests/common/mod.rs"]
 mod common;
@@ -53,4 +53,28 @@ fn a_close_may_not_leave_fewer_held_than_paired() {
     book.at(0, 0).cash = 500_000;
     book.at(1, 0).cash = -500_000;
     assert_eq!(after, book.bytes());
+}
+
+/// Field `at` of a member's row in the results.
+fn result(results: &[u8], member: usize, at: usize) -> i64 {
+    let from = member * 72 + at * 8;
+    i64::from_le_bytes(results[from..from + 8].try_into().unwrap())
+}
+
+#[test]
+fn paired_lots_go_from_tonights_price_to_the_delivery_price() {
+    let mut book: RawBook = plain(2, [505_000, 10, 500, 0, 7, 0]);
+    book.at(0, 0).lots = [2, 0, 0, 0, 0, 0, 2, 0];
+    book.at(1, 0).lots = [0, 2, 0, 0, 0, 0, 0, 2];
+    let bytes = book.bytes();
+    for (delivery, buyer) in [(504_000u32, -20_000), (505_000, 0), (506_000, 20_000)] {
+        let prices = [505_000u32.to_le_bytes(), delivery.to_le_bytes()].concat();
+        let mut next = vec![0; bytes.len()];
+        let mut results = vec![0; 2 * 72];
+        assert_eq!(host::settle(&bytes, &prices, &mut next, &mut results), 0);
+        for (member, profit) in [(0, buyer), (1, -buyer)] {
+            let row: Vec<i64> = (0..4).map(|at| result(&results, member, at)).collect();
+            assert_eq!(row, [member as i64, profit, 14, 0]);
+        }
+    }
 }
