@@ -1,20 +1,18 @@
 -- A request that was read is in range, and so is each account of a valid book.
 use mathlib.Core.Path.{_≡_, refl, sym, ap, _∙_, subst}
-use mathlib.Core.Logic.{_≢_}
-use mathlib.Core.Bool.{Bool, true, false, cond, _&&_, not}
+use mathlib.Core.Bool.{true, _&&_}
 use mathlib.Core.List.{List}
 use Prim.{tt}
 use Prim.Native.Nat.{ℕ, _+_, _*_, _^_, _≤_, _<_}
 use native.Mathlib.Omega.{arith}
-use borrow.Author.Tests.{leb-true, ltb-true, eqb-true, eqb-false, not-true}
-use lib.Dec.{T, leb, ltb, eqb, lit≤}
+use borrow.Author.Tests.{leb-true}
+use lib.Dec.{leb, lit≤}
 use lib.IntN.{ℤ, pos, negsuc, natAbs}
 use lib.Signed.{leZ}
-use lib.ListN.{length}
 use Rattle.numbers.specs.Range.{In}
-use Rattle.numbers.proofs.Ranges.{in-weaken, in-pos, cond-ind}
+use Rattle.numbers.proofs.Ranges.{in-weaken, in-pos}
 use Rattle.folds.specs.Tests.{allOf, between}
-use Rattle.folds.proofs.Tests.{each, and-left, and-right, between-low, between-high}
+use Rattle.folds.proofs.Tests.{each, and-right, between-low}
 use Rattle.rules.specs.declared.units.Fen.{Fen}
 use Rattle.rules.specs.Ranges.{FiguresIn}
 use Rattle.book.specs.declared.heads.Head.{Head}
@@ -27,96 +25,24 @@ use Rattle.book.specs.Accounts.{accountAt, Shaped, Within}
 use Rattle.validity.specs.Valid.{upTo, aboutZero, memberTests, headTests, headOk, validBook}
 use Rattle.validity.specs.Totals.{Ranged}
 use Rattle.validity.proofs.Facts.{member-row, accepted-most, traded-most, position-in, valid-head, valid-shaped, valid-ranged}
-use Rattle.posting.specs.declared.records.Record.{Record}
-use Rattle.posting.specs.declared.records.MarkRead.{MarkRead}
-use Rattle.posting.specs.declared.records.MarkRead.the-variants.{Known, Unknown}
 use Rattle.posting.specs.declared.records.Request.{Request}
-use Rattle.posting.specs.declared.records.Request.the-variants.{Nothing}
-use Rattle.posting.specs.Records.{recordSize, recordAt, readMark, tradeTests, pairingTests, paymentTests, pledgeTests, tradeBy, readTrade, readPairing, readDeposit, readWithdrawal, readPledge, readKind, requestOf}
+use Rattle.posting.specs.Records.{requestOf}
+use Rattle.posting.proofs.Requests.{Formed, trading, pairing, depositing, withdrawing, pledging, nothing, formed}
 use Rattle.posting.specs.Ranges.{AccountIn}
 use Rattle.ledger.specs.Puts.{RequestIn}
 
-holds : (b : Bool) → T b → b ≡ true
-holds true t = refl
-holds false t = absurd t
-
 -- ---- requests
 
-module _ (h : Head) (q : Record) where
-  marks-in : (m m′ : MarkRead) → allOf (tradeTests h q) ≡ true → RequestIn h (tradeBy m m′ q)
-  marks-in (Known buying) (Known selling) e =
-      let t = each (tradeTests h q) e in
-      record {
-        contract = ltb-true (q .contract) (h .contracts) (t 0);
-        buyer = ltb-true (q .first) (h .members) (t 1);
-        seller = ltb-true (q .second) (h .members) (t 2);
-        differ = eqb-false (q .first) (q .second) (not-true (eqb (q .first) (q .second)) (t 3));
-        price = between-high 1 10_000_000 (q .a) (t 4);
-        lots = between-high 1 10_000 (q .b) (t 5);
-      }
-  marks-in (Known buying) Unknown e = tt
-  marks-in Unknown m′ e = tt
-
-  trade-in : RequestIn h (readTrade h q)
-  unfolding readTrade
-  trade-in =
-      cond-ind (allOf (tradeTests h q)) (tradeBy (readMark (q .marks .first)) (readMark (q .marks .second)) q) Nothing (RequestIn h)
-      (λ t. marks-in (readMark (q .marks .first)) (readMark (q .marks .second)) (holds (allOf (tradeTests h q)) t)) (λ t. tt)
-
-  pairing-in : RequestIn h (readPairing h q)
-  unfolding readPairing
-  pairing-in =
-      cond-ind (allOf (pairingTests h q)) _ Nothing (RequestIn h)
-      (λ t. let e = each (pairingTests h q) (holds (allOf (pairingTests h q)) t) in
-      record {
-        contract = ltb-true (q .contract) (h .contracts) (e 0);
-        buyer = ltb-true (q .first) (h .members) (e 1);
-        seller = ltb-true (q .second) (h .members) (e 2);
-        differ = eqb-false (q .first) (q .second) (not-true (eqb (q .first) (q .second)) (e 3));
-        lots = between-high 1 10_000 (q .b) (e 6);
-      })
-      (λ t. tt)
-
-  payment-in : allOf (paymentTests h q) ≡ true → (q .first < h .members) × In (10 ^ 12) (pos (q .a))
-  payment-in e =
-      (ltb-true (q .first) (h .members) (each (paymentTests h q) e 1), in-pos (between-high 1 (10 ^ 12) (q .a) (each (paymentTests h q) e 4)))
-
-  deposit-in : RequestIn h (readDeposit h q)
-  unfolding readDeposit
-  deposit-in =
-      cond-ind (allOf (paymentTests h q)) _ Nothing (RequestIn h)
-      (λ t. let p = payment-in (holds (allOf (paymentTests h q)) t) in record { member = p .0; amount = p .1 }) (λ t. tt)
-
-  withdrawal-in : RequestIn h (readWithdrawal h q)
-  unfolding readWithdrawal
-  withdrawal-in =
-      cond-ind (allOf (paymentTests h q)) _ Nothing (RequestIn h)
-      (λ t. let p = payment-in (holds (allOf (paymentTests h q)) t) in record { member = p .0; amount = p .1 }) (λ t. tt)
-
-  pledge-in : RequestIn h (readPledge h q)
-  unfolding readPledge
-  pledge-in =
-      cond-ind (allOf (pledgeTests h q)) _ Nothing (RequestIn h)
-      (λ t. let e = each (pledgeTests h q) (holds (allOf (pledgeTests h q)) t) in
-      record {
-        member = ltb-true (q .first) (h .members) (e 1);
-        market = in-pos (leb-true (q .a) (10 ^ 15) (e 4));
-        discount = leb-true (q .b) 8_000 (e 5);
-      })
-      (λ t. tt)
-
-  kind-in : RequestIn h (readKind h q)
-  unfolding readKind
-  kind-in =
-      cond-ind (eqb (q .kind) 1) _ _ (RequestIn h) (λ t. trade-in)
-      (λ t. cond-ind (eqb (q .kind) 2) _ _ (RequestIn h) (λ t. pairing-in)
-      (λ t. cond-ind (eqb (q .kind) 3) _ _ (RequestIn h) (λ t. deposit-in)
-      (λ t. cond-ind (eqb (q .kind) 4) _ _ (RequestIn h) (λ t. withdrawal-in)
-      (λ t. cond-ind (eqb (q .kind) 5) _ _ (RequestIn h) (λ t. pledge-in) (λ t. tt)))))
+by-form : (h : Head) (q : Request) → Formed h q → RequestIn h q
+by-form h q (trading s price) = record { contract = s .contract; buyer = s .buyer; seller = s .seller; differ = s .differ; price = price; lots = s .few }
+by-form h q (pairing s) = record { contract = s .contract; buyer = s .buyer; seller = s .seller; differ = s .differ; lots = s .few }
+by-form h q (depositing member amount) = record { member = member; amount = amount .within }
+by-form h q (withdrawing member amount) = record { member = member; amount = amount .within }
+by-form h q (pledging member market discount) = record { member = member; market = market .within; discount = discount }
+by-form h q nothing = tt
 
 pub request-in : (h : Head) (r : List ℕ) → RequestIn h (requestOf h r)
-unfolding requestOf
-request-in h r = cond-ind (eqb (length r) recordSize) (readKind h (recordAt r)) Nothing (RequestIn h) (λ t. kind-in h (recordAt r)) (λ t. tt)
+request-in h r = by-form h (requestOf h r) (formed h r)
 
 -- ---- accounts
 

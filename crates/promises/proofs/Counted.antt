@@ -13,7 +13,7 @@ use Rattle.posting.specs.Postings.{tradeAnswer, pairingAnswer, depositAnswer, w
 use Rattle.posting.specs.Answers.{answer, after}
 use Rattle.promises.specs.Naming.{named}
 use Rattle.promises.specs.Dealings.{fillsOf, tradedOf, rowAt}
-use Rattle.promises.proofs.Requests.{Formed, trading, pairing, depositing, withdrawing, pledging, nothing, formed}
+use Rattle.posting.proofs.Requests.{Formed, trading, pairing, depositing, withdrawing, pledging, nothing, formed}
 use Rattle.promises.proofs.AcceptedMakes.{sole, both, makes, accepted}
 use Rattle.promises.proofs.Grown.{grown}
 use Rattle.promises.proofs.DayOfRun.{record-moves}

@@ -23,7 +23,7 @@ use Rattle.posting.specs.Records.{requestOf, namesOf, contractOf}
 use Rattle.posting.specs.Postings.{tradeAnswer, pairingAnswer, depositAnswer, withdrawalAnswer, pledgeAnswer}
 use Rattle.posting.specs.Answers.{answer, after}
 use Rattle.promises.specs.Dealings.{Fill, dealing, delivering, share, fillsOf, acceptedOf, fillsIn, dealings, rowAt}
-use Rattle.promises.proofs.Requests.{Formed, trading, pairing, depositing, withdrawing, pledging, nothing, formed}
+use Rattle.posting.proofs.Requests.{Formed, trading, pairing, depositing, withdrawing, pledging, nothing, formed}
 use Rattle.promises.proofs.Changes.{trade-done}
 use Rattle.promises.proofs.Kept.{kept}
 use Rattle.promises.proofs.AcceptedMakes.{sole, both, makes, accepted}

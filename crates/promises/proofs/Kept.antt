@@ -19,7 +19,7 @@ use Rattle.book.proofs.LensLaws.{length-account, head-put}
 use Rattle.validity.specs.Valid.{validBook}
 use Rattle.posting.specs.declared.records.Request.{Request}
 use Rattle.posting.specs.Answers.{accounts, step, after}
-use Rattle.promises.proofs.Requests.{Formed, formed}
+use Rattle.posting.proofs.Requests.{Formed, formed}
 use Rattle.promises.proofs.Sound.{Fine, sound-next, member-fits, position-fits}
 use Rattle.promises.proofs.Changes.{Cancels}
 use Rattle.promises.proofs.Puts.{accountOf, Put, bytes-put, Rows, sound-at, rows-put, balance-one, balance-two}

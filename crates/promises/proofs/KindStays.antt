@@ -16,7 +16,7 @@ use Rattle.book.specs.Accounts.{place, accountAt, putAccount, Within}
 use Rattle.book.proofs.LensLaws.{length-account, kind-kept}
 use Rattle.posting.specs.Records.{requestOf}
 use Rattle.posting.specs.Answers.{accounts, answer, after}
-use Rattle.promises.proofs.Requests.{formed}
+use Rattle.posting.proofs.Requests.{formed}
 use Rattle.promises.proofs.Sound.{Fine}
 use Rattle.promises.proofs.AccountBack.{kind-back, kind-is}
 use Rattle.promises.proofs.Whole.{Whole, whole-of, room}

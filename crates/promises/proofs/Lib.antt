@@ -3,7 +3,6 @@ pub mod RowTests
 pub mod AccountBack
 pub mod SameHead
 pub mod OnePrice
-pub mod Requests
 pub mod Sound
 pub mod Changes
 pub mod Puts

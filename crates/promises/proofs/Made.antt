@@ -18,7 +18,7 @@ use Rattle.posting.specs.declared.accounts.Party.the-variants.{Buyer, Seller}
 use Rattle.posting.specs.Records.{placesFor}
 use Rattle.posting.specs.Postings.{tradeAnswer, pairingAnswer, depositAnswer, withdrawalAnswer, pledgeAnswer, postingOf}
 use Rattle.posting.specs.Answers.{accounts}
-use Rattle.promises.proofs.Requests.{Formed, trading, pairing, depositing, withdrawing, pledging, nothing}
+use Rattle.posting.proofs.Requests.{Formed, trading, pairing, depositing, withdrawing, pledging, nothing}
 use Rattle.promises.proofs.Sound.{Sound, Fine}
 use Rattle.promises.proofs.Changes.{Cancels, traded-fine, paired-fine, deposited-fine, withdrawn-fine, pledged-fine, trade-cancels, pairing-cancels, trade-done, pairing-done, deposit-done, withdrawal-done, pledge-done}
 use Rattle.promises.proofs.Puts.{sound-at}

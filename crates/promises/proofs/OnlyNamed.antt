@@ -25,7 +25,7 @@ use Rattle.validity.specs.Valid.{validBook}
 use Rattle.posting.specs.Records.{requestOf}
 use Rattle.posting.specs.Answers.{accounts, placesOf, posting, answer, after}
 use Rattle.promises.specs.Naming.{named, contractNamed}
-use Rattle.promises.proofs.Requests.{formed, standing, places-within}
+use Rattle.posting.proofs.Requests.{formed, standing, places-within}
 use Rattle.promises.proofs.Sound.{Sound, sound-next, member-fits, position-fits}
 use Rattle.promises.proofs.AccountBack.{account-back}
 use Rattle.promises.proofs.Whole.{whole-of, room}

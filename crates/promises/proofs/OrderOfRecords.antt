@@ -17,7 +17,7 @@ use Rattle.validity.specs.Valid.{validBook}
 use Rattle.posting.specs.Records.{requestOf, namesOf}
 use Rattle.posting.specs.Answers.{accounts, placesOf, posting, says, step, answer, after}
 use Rattle.promises.specs.Naming.{Common}
-use Rattle.promises.proofs.Requests.{formed, standing, places-within}
+use Rattle.posting.proofs.Requests.{formed, standing, places-within}
 use Rattle.promises.proofs.Whole.{whole-of, some-contract}
 use Rattle.promises.proofs.Kept.{kept, kept-step}
 use Rattle.promises.proofs.Answering.{valid-answer, valid-after, invalid-after}
