@@ -26,3 +26,4 @@ pub mod ProfitExample
 pub mod EveningOfRecords
 pub mod ProfitOnTheSheet
 pub mod NextDay
+pub mod Promises

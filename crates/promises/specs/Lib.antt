@@ -1,6 +1,8 @@
 pub mod Naming
+pub mod Runs
 pub mod Dealings
 pub mod ByArticle
 pub mod SmallBook
-pub mod SameEvening
+pub mod SameDay
 pub mod Days
+pub mod Promises

@@ -1,0 +1,59 @@
+-- Each promise, by the theorem that proves it.
+use mathlib.Core.Path.{sym, _∙_}
+use Rattle.promises.specs.Promises.{Kept, OnlyTheNamed, RefusedChangesNothing, AcceptedMakes, Counted, TradedCounted, Order, EveningAfterOrder, Profit, SomePairing, ProfitOnTheSheet, NextMorning, EveryMorning, DayAfterDay, OnePosting, OneSettlement}
+use Rattle.promises.proofs.Kept as kept
+use Rattle.promises.proofs.OnlyNamed.{untouched, refused-stays, accepted-makes}
+use Rattle.promises.proofs.Counted.{accepted-counts, traded-counts}
+use Rattle.promises.proofs.OrderOfRecords.{order-of-records}
+use Rattle.promises.proofs.EveningOfRecords.{evening-of-records}
+use Rattle.promises.proofs.ProfitOfRecords.{the-profit, a-profit}
+use Rattle.promises.proofs.ProfitOnTheSheet.{profit-on-the-sheet}
+use Rattle.promises.proofs.NextDay as next-day
+
+pub always-kept : Kept
+always-kept = kept.kept
+
+pub only-the-named : OnlyTheNamed
+only-the-named = untouched
+
+pub refused-changes-nothing : RefusedChangesNothing
+refused-changes-nothing = refused-stays
+
+pub accepted : AcceptedMakes
+accepted = accepted-makes
+
+pub counted : Counted
+counted = accepted-counts
+
+pub traded-counted : TradedCounted
+traded-counted = traded-counts
+
+pub order : Order
+order = order-of-records
+
+pub evening-after-order : EveningAfterOrder
+evening-after-order = evening-of-records
+
+pub profit : Profit
+profit book records tonight delivery m opening l sum by = the-profit book records opening tonight delivery m l by
+
+pub some-pairing : SomePairing
+some-pairing book records tonight delivery m opening l = a-profit book records opening tonight delivery m l
+
+pub sheet : ProfitOnTheSheet
+sheet book records prices m opening l sum by = profit-on-the-sheet book records prices m opening l by
+
+pub next-morning : NextMorning
+next-morning = next-day.opens
+
+pub every-morning : EveryMorning
+every-morning first book opening days = next-day.every-morning opening days
+
+pub day-after-day : DayAfterDay
+day-after-day book prices next results settled records later m l sum by = next-day.next-days-profit book prices next results settled records later m l by
+
+pub one-posting : OnePosting
+one-posting book r number other left left′ a b = (a .answered ∙ sym (b .answered), a .bytes ∙ sym (b .bytes))
+
+pub one-settlement : OneSettlement
+one-settlement book prices next results number other left left′ sheet sheet′ a b = (a .answered ∙ sym (b .answered), a .book-bytes ∙ sym (b .book-bytes), a .sheet-bytes ∙ sym (b .sheet-bytes))
