@@ -1,7 +1,3 @@
-pub mod Amounts
-pub mod RowTests
-pub mod AccountBack
-pub mod SameHead
 pub mod OnePrice
 pub mod Requests
 pub mod Sound

@@ -19,17 +19,17 @@ use Rattle.book.specs.Positions.{positionAt}
 use Rattle.book.specs.Accounts.{place, accountAt, putAccount, Within}
 use Rattle.book.proofs.Places.{head-member, head-position, contract-member, contract-position, members-apart, member-position, positions-apart}
 use Rattle.book.proofs.Rows.{Same, same-contract, same-position}
-use Rattle.book.proofs.LensLaws.{length-account, account-stays, get-put}
+use Rattle.book.proofs.Contents.{same-head}
+use Rattle.book.proofs.LensLaws.{length-account, account-stays, get-put, account-back}
 use Rattle.validity.specs.Valid.{validBook}
+use Rattle.validity.proofs.Fits.{member-fits}
 use Rattle.posting.specs.Records.{requestOf}
 use Rattle.posting.specs.Answers.{accounts, placesOf, posting, answer, after}
 use Rattle.promises.specs.Naming.{named, contractNamed}
 use Rattle.promises.specs.Promises.{SameBytes, Untouched}
 use Rattle.promises.proofs.Requests.{formed, standing, places-within}
-use Rattle.promises.proofs.Sound.{Sound, sound-next, member-fits, position-fits}
-use Rattle.promises.proofs.AccountBack.{account-back}
+use Rattle.promises.proofs.Sound.{Sound, sound-next, position-fits}
 use Rattle.promises.proofs.Whole.{whole-of, room}
-use Rattle.promises.proofs.SameHead.{same-head}
 use Rattle.promises.proofs.Made.{postingAt, step-puts, step-refused, Made, one, two, made}
 use Rattle.promises.proofs.Answering.{valid-answer, valid-after, invalid-after, accepted-valid}
 

@@ -1,5 +1,6 @@
 -- Each promise, by the theorem that proves it.
 use mathlib.Core.Path.{sym, _∙_}
+use Rattle.morning.proofs.Morning as morning
 use Rattle.promises.specs.Promises.{Kept, OnlyTheNamed, RefusedChangesNothing, AcceptedMakes, Counted, TradedCounted, Order, EveningAfterOrder, Profit, SomePairing, ProfitOnTheSheet, NextMorning, EveryMorning, DayAfterDay, OnePosting, OneSettlement}
 use Rattle.promises.proofs.Kept as kept
 use Rattle.promises.proofs.OnlyNamed.{untouched, refused-stays, accepted-makes}
@@ -8,7 +9,7 @@ use Rattle.promises.proofs.OrderOfRecords.{order-of-records}
 use Rattle.promises.proofs.EveningOfRecords.{evening-of-records}
 use Rattle.promises.proofs.ProfitOfRecords.{the-profit, a-profit}
 use Rattle.promises.proofs.ProfitOnTheSheet.{profit-on-the-sheet}
-use Rattle.promises.proofs.NextDay as next-day
+use Rattle.promises.proofs.NextDay.{every-morning, every-evening}
 
 pub always-kept : Kept
 always-kept = kept.kept
@@ -41,16 +42,16 @@ pub some-pairing : SomePairing
 some-pairing book records tonight delivery m opening l = a-profit book records opening tonight delivery m l
 
 pub sheet : ProfitOnTheSheet
-sheet book records prices m opening l sum by = profit-on-the-sheet book records prices m opening l by
+sheet = profit-on-the-sheet
 
 pub next-morning : NextMorning
-next-morning = next-day.opens
+next-morning = morning.next-morning
 
-pub every-morning : EveryMorning
-every-morning first book opening days = next-day.every-morning opening days
+pub each-morning : EveryMorning
+each-morning = every-morning
 
 pub day-after-day : DayAfterDay
-day-after-day book prices next results settled records later m l sum by = next-day.next-days-profit book prices next results settled records later m l by
+day-after-day = every-evening
 
 pub one-posting : OnePosting
 one-posting book r number other left left′ a b = (a .answered ∙ sym (b .answered), a .bytes ∙ sym (b .bytes))

@@ -14,20 +14,18 @@ use Rattle.rules.specs.declared.units.Price.{Price}
 use Rattle.book.specs.Layout.{headSize, contractSize, memberSize, positionSize, contractOff, memberOff, positionOff}
 use Rattle.book.specs.Heads.{headAt}
 use Rattle.book.specs.Members.{memberAt}
-use Rattle.book.specs.Books.{bookAt}
 use Rattle.validity.specs.Valid.{validBook}
 use Rattle.validity.specs.Opening.{openingBook}
 use Rattle.posting.specs.Records.{requestOf}
 use Rattle.posting.specs.Answers.{accounts, placesOf, posting, answer, after}
 use Rattle.tonight.specs.Prices.{tonightAt, deliveryAt}
-use Rattle.tonight.specs.Night.{nightOf}
 use Rattle.settlement.specs.Settle.{settleAnswer, nextAfter, resultsAfter}
 use Rattle.promises.specs.Naming.{named, contractNamed, Common}
 use Rattle.promises.specs.Runs.{endOf}
 use Rattle.promises.specs.Dealings.{fillsOf, tradedOf, rowAt}
-use Rattle.promises.specs.ByArticle.{ByArticle, profitOn}
+use Rattle.promises.specs.ByArticle.{ByArticle, profitOn, writtenProfit}
 use Rattle.promises.specs.SameDay.{SameRun, SameEvening}
-use Rattle.promises.specs.Days.{nextBook, Morning}
+use Rattle.promises.specs.Days.{nextBook, Day, Morning}
 
 -- ---- one record
 
@@ -97,10 +95,12 @@ abbrev pub SomePairing : Type 0
 SomePairing = (book : List ℕ) (records : List (List ℕ)) (tonight delivery : ℕ → Price) (m : ℕ) → openingBook book ≡ true → m < headAt book .members
     → ByArticle book records tonight delivery m (profitOn (endOf book records) tonight delivery m)
 
--- Demand 2. What settlement writes as a member's profit or loss is article 31's over the accepted records, by every pairing.
+-- Demand 2. Where the evening is answered 0, the profit or loss that settlement writes for a member is article 31's over the accepted
+-- records, by every pairing.
 abbrev pub ProfitOnTheSheet : Type 0
-ProfitOnTheSheet = (book : List ℕ) (records : List (List ℕ)) (prices : List ℕ) (m : ℕ) → openingBook book ≡ true → m < headAt book .members
-    → (profit : Fen) → ByArticle book records (tonightAt prices) (deliveryAt prices) m profit → nightOf (bookAt (endOf book records)) prices m .profit ≡ profit
+ProfitOnTheSheet = (book : List ℕ) (records : List (List ℕ)) (prices next results : List ℕ) (m : ℕ) → openingBook book ≡ true → m < headAt book .members
+    → settleAnswer (endOf book records) prices (length next) (length results) ≡ 0
+    → (profit : Fen) → ByArticle book records (tonightAt prices) (deliveryAt prices) m profit → writtenProfit (endOf book records) prices next results m ≡ profit .0
 
 -- ---- day after day
 
@@ -112,11 +112,12 @@ NextMorning = (book prices next results : List ℕ) → settleAnswer book prices
 abbrev pub EveryMorning : Type 0
 EveryMorning = (first book : List ℕ) → openingBook first ≡ true → Morning first book → openingBook book ≡ true
 
--- On the book that an evening answered 0 has left, the next evening's profit is article 31's over the next day's accepted records. Demand 2.
+-- And so the profit or loss written on any of these days' evenings is article 31's over that day's accepted records. Demand 2.
 abbrev pub DayAfterDay : Type 0
-DayAfterDay = (book prices next results : List ℕ) → settleAnswer book prices (length next) (length results) ≡ 0
-    → let morning = nextBook book prices next results in (records : List (List ℕ)) (prices′ : List ℕ) (m : ℕ) → m < headAt morning .members
-    → (profit : Fen) → ByArticle morning records (tonightAt prices′) (deliveryAt prices′) m profit → nightOf (bookAt (endOf morning records)) prices′ m .profit ≡ profit
+DayAfterDay = (first book : List ℕ) → openingBook first ≡ true → Morning first book → (day : Day) (m : ℕ) → m < headAt book .members
+    → settleAnswer (endOf book (day .records)) (day .prices) (length (day .next)) (length (day .results)) ≡ 0
+    → (profit : Fen) → ByArticle book (day .records) (tonightAt (day .prices)) (deliveryAt (day .prices)) m profit
+    → writtenProfit (endOf book (day .records)) (day .prices) (day .next) (day .results) m ≡ profit .0
 
 -- ---- one outcome
 
