@@ -8,14 +8,15 @@ use lib.ListN.{length}
 use Rattle.wire.specs.LittleEndian.{numberAt, Apart, before}
 use Rattle.wire.proofs.Places.{apart-sym}
 use Rattle.order.specs.Lens.{Lens, Laws}
-use Rattle.book.specs.Layout.{Head, headSize, contractSize, memberSize, positionSize, contractOff, memberOff, positionOff, bookLength, membersAt, contractsAt, kindAt}
+use Rattle.book.specs.Layout.{Head, headSize, contractSize, memberSize, positionSize, contractOff, memberOff, positionOff, bookLength, kindAt}
 use Rattle.book.specs.Heads.{headAt}
 use Rattle.book.specs.Contracts.{contractAt}
-use Rattle.book.specs.Members.{Member, memberAt, putMember, kindNumberAt}
+use Rattle.book.specs.Members.{Member, memberAt, putMember, kindNumber, kindNumberAt}
 use Rattle.book.specs.Positions.{Position, positionAt, putPosition}
 use Rattle.book.specs.Accounts.{Place, Account, accountAt, putAccount, Within, Far}
-use Rattle.book.proofs.Places.{head-member, head-position, contract-member, contract-position, members-apart, member-position, rows-apart, positions-apart}
-use Rattle.book.proofs.Rows.{Same, same-contract, same-member, same-position, put-member-stays, put-position-stays, length-member, length-position, member-member, position-position, position-member}
+use Rattle.book.proofs.Contents.{same-head}
+use Rattle.book.proofs.Places.{member-within, position-within, head-member, head-position, contract-member, contract-position, members-apart, member-position, rows-apart, positions-apart}
+use Rattle.book.proofs.Rows.{Same, MemberFits, PositionFits, member-back, kind-number-back, position-back, same-contract, same-member, same-position, put-member-stays, put-position-stays, length-member, length-position, member-member, position-position, position-member}
 
 pub length-account : (h : Head) (xs : List ℕ) (p : Place) (a : Account) → length (putAccount h xs p a) ≡ length xs
 unfolding putAccount
@@ -36,8 +37,7 @@ pub head-stays : (h : Head) (xs : List ℕ) (p : Place) (a : Account) → Same (
 head-stays h xs p a = account-stays h xs p a 0 headSize (head-member h (p .member)) (head-position h (p .member) (p .contract))
 
 pub head-put : (h : Head) (xs : List ℕ) (p : Place) (a : Account) → headAt (putAccount h xs p a) ≡ headAt xs
-unfolding headAt
-head-put h xs p a = rw (head-stays h xs p a membersAt 2 (omega arith), head-stays h xs p a contractsAt 2 (omega arith))
+head-put h xs p a = same-head (putAccount h xs p a) xs (head-stays h xs p a)
 
 pub contract-kept : (h : Head) (xs : List ℕ) (p : Place) (a : Account) (j : ℕ) → j < h .contracts → contractAt (putAccount h xs p a) (contractOff j) ≡ contractAt xs (contractOff j)
 contract-kept h xs p a j l =
@@ -66,6 +66,29 @@ get-put h xs p q a f i = record {
   member = member-kept h xs p a (q .member) (f .other .member) (λ e. f .differ (sym e)) i;
   position = position-kept h xs p a (q .member) (q .contract) (f .one) (f .other .contract) (inl (λ e. f .differ (sym e))) i;
 }
+
+-- an account put back reads back, with the number of its member's kind
+module _ (h : Head) (xs : List ℕ) (p : Place) (a : Account) (room : bookLength h ≤ length xs) (w : Within h p) where
+  fits : memberOff h (p .member) + memberSize ≤ length xs
+  fits = omega (arith, room, member-within h (p .member) (w .member))
+
+  -- the position's row is laid down after the member's, and apart from it
+  stays : Same (putAccount h xs p a) (putMember xs (memberOff h (p .member)) (a .member)) (memberOff h (p .member)) memberSize
+  unfolding putAccount
+  stays =
+      put-position-stays (putMember xs (memberOff h (p .member)) (a .member)) (positionOff h (p .member) (p .contract)) (a .position) (memberOff h (p .member)) memberSize
+      (member-position h (p .member) (p .member) (p .contract) (w .member))
+
+  pub account-back : MemberFits (a .member) → PositionFits (a .position) → accountAt h (putAccount h xs p a) p ≡ a
+  unfolding accountAt putAccount
+  account-back f g i = record {
+    member = (same-member _ _ (memberOff h (p .member)) stays ∙ member-back xs (memberOff h (p .member)) (a .member) fits f) i;
+    position = position-back (putMember xs (memberOff h (p .member)) (a .member)) (positionOff h (p .member) (p .contract)) (a .position)
+        (omega (arith, room, position-within h (p .member) (p .contract) (w .member) (w .contract), length-member xs (memberOff h (p .member)) (a .member))) g i;
+  }
+
+  pub account-kind : kindNumberAt (putAccount h xs p a) (memberOff h (p .member)) ≡ kindNumber (a .member .kind)
+  account-kind = stays kindAt 4 (omega arith) ∙ kind-number-back xs (memberOff h (p .member)) (a .member) fits
 
 pub put-put : (h : Head) (xs : List ℕ) (p q : Place) (a b : Account) → Far h p q → putAccount h (putAccount h xs p a) q b ≡ putAccount h (putAccount h xs q b) p a
 unfolding putAccount

@@ -1,11 +1,14 @@
 -- A row that was laid down reads back, what lies apart from it stays, and rows apart may be laid down in either order.
 use mathlib.Core.Path.{_≡_, refl, sym, ap, _∙_}
+use mathlib.Core.Logic.{_≢_}
+use mathlib.Core.Bool.{Bool, true, false, cond}
 use mathlib.Core.List.{List}
 use Prim.{tt}
 use Prim.Native.Nat.{ℕ, _+_, _^_, _%_, _≤_, _<_}
 use native.Mathlib.Nat.{add-assoc, mod-eq-of-lt}
 use native.Mathlib.Omega.{arith}
-use lib.Dec.{lit<}
+use borrow.Author.Tests.{eqb-true, eqb-false}
+use lib.Dec.{eqb, lit<}
 use lib.ListN.{length}
 use lib.Seq.{sets, length-sets}
 use mir.Syntax.{w64}
@@ -18,7 +21,9 @@ use Rattle.rules.specs.declared.members.MemberKind.{MemberKind}
 use Rattle.rules.specs.declared.members.MemberKind.the-variants.{Broker, Other}
 use Rattle.wire.specs.LittleEndian.{numberAt, signedAt, Apart}
 use Rattle.wire.proofs.Places.{apart-sym, apart-part}
+use Rattle.folds.specs.Tests.{between}
 use Rattle.folds.specs.Rows.{Field, rowBytes, widths, dense}
+use Rattle.folds.proofs.Tests.{between-low, between-high}
 use Rattle.folds.proofs.Rows.{length-row, row-back}
 use Rattle.folds.proofs.Laid.{number-stays, sets-sets}
 use Rattle.book.specs.Layout.{contractSize, memberSize, positionSize, lastAt, multiplierAt, rateAt, feeAt, deliveryAt, contractZeroAt, kindAt, acceptedAt, reserveAt, marginAt, usableAt, marketAt, discountAt, depositsAt, withdrawalsAt, longAt, shortAt, openingAt, closedAt, newAt, pairedAt, cashAt, tradedAt, positionZeroAt}
@@ -118,6 +123,14 @@ position-member xs o o′ r r′ p = laid-laid xs o o′ (positionFields r) (mem
 
 -- ---- a row reads back
 
+pub record ContractFits (c : Contract) : Type 0 where
+  pub last : c .last .0 < 2 ^ 32
+  pub multiplier : c .multiplier < 2 ^ 32
+  pub rate : c .rate < 2 ^ 32
+  pub fee : c .fee < 2 ^ 32
+  pub delivery : c .delivery < 2 ^ 32
+  pub zero : c .zero < 2 ^ 32
+
 pub record FiguresFit (f : Figures) : Type 0 where
   pub reserve : SFits w64 (f .reserve .0)
   pub margin : SFits w64 (f .margin .0)
@@ -156,8 +169,32 @@ pub kind-back : (k : MemberKind) → kindOf (kindNumber k) ≡ k
 kind-back Broker = refl
 kind-back Other = refl
 
+-- the number of a kind is one of the two, and each of the two is a kind's
+pub kind-known : (k : MemberKind) → between 1 2 (kindNumber k) ≡ true
+kind-known Broker = refl
+kind-known Other = refl
+
+pub kind-is : (n : ℕ) → between 1 2 n ≡ true → kindNumber (kindOf n) ≡ n
+kind-is n e = elim (eqb n 1) as (λ (t : Bool). eqb n 1 ≡ t → kindNumber (cond t Broker Other) ≡ n) [
+  | true ↦ λ f. sym (eqb-true n 1 f)
+  | false ↦ λ f. let ne : n ≢ 1 = eqb-false n 1 f in omega (arith, between-low 1 2 n e, between-high 1 2 n e)
+] refl
+
 money-back : (n : ℕ) (amount : Fen) → SFits w64 (amount .0) → n ≡ ofZ w64 (amount .0) % 256 ^ 8 → toZ w64 n ≡ amount .0
 money-back n amount f e = signed-back n (amount .0) f (e ∙ mod-eq-of-lt (ofZ-fits w64 (amount .0) f .fits))
+
+pub contract-back : (xs : List ℕ) (o : ℕ) (c : Contract) → o + contractSize ≤ length xs → ContractFits c → contractAt (putContract xs o c) o ≡ c
+unfolding contractAt putContract
+contract-back xs o c h f =
+    let g = row-back (contractFields c) xs o refl h in
+    λ i. record {
+      last = record { 0 = (g 0 (lit< tt) ∙ mod-eq-of-lt (f .last)) i };
+      multiplier = (g 1 (lit< tt) ∙ mod-eq-of-lt (f .multiplier)) i;
+      rate = (g 2 (lit< tt) ∙ mod-eq-of-lt (f .rate)) i;
+      fee = (g 3 (lit< tt) ∙ mod-eq-of-lt (f .fee)) i;
+      delivery = (g 4 (lit< tt) ∙ mod-eq-of-lt (f .delivery)) i;
+      zero = (g 5 (lit< tt) ∙ mod-eq-of-lt (f .zero)) i;
+    }
 
 pub member-back : (xs : List ℕ) (o : ℕ) (r : Member) → o + memberSize ≤ length xs → MemberFits r → memberAt (putMember xs o r) o ≡ r
 unfolding memberAt putMember figuresAt securitiesAt dayAt

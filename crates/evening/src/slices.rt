@@ -8,7 +8,7 @@ ghost use lib.ListN.{length, take, drop};
 ghost use Rattle.book.specs.Layout.{longestBook};
 ghost use Rattle.settlement.specs.Settle.{settleAnswer, nextAfter, resultsAfter};
 ghost use Rattle.sheet.specs.Sheet.{longestRefused};
-ghost use Rattle.sheet.specs.Put.{Put};
+ghost use Rattle.folds.specs.Put.{Put};
 ghost use Rattle.intake.specs.Intake.{bookTotal, bookThere, countOf, recordsIn};
 ghost use Rattle.intake.specs.Posted.{refusedLines, bookPosted};
 

@@ -4,7 +4,7 @@ ghost use Prim.Native.Nat.{_+_, _*_, _≤_, _<_};
 ghost use lib.ListN.{length};
 ghost use Rattle.book.specs.Layout.{headSize};
 ghost use Rattle.sheet.specs.Sheet.{sheetText, headerLength, longestLine};
-ghost use Rattle.sheet.specs.Put.{Put};
+ghost use Rattle.folds.specs.Put.{Put};
 ghost use Rattle.intake.specs.Posted.{outcome, membersOn, SheetRoom};
 
 pub const MOST_MEMBERS: usize = 32;

@@ -5,7 +5,7 @@ ghost use Prim.Native.Nat.{_+_, _*_, _≤_, _<_};
 ghost use lib.ListN.{length};
 ghost use Rattle.posting.specs.Answers.{answer, after};
 ghost use Rattle.sheet.specs.Sheet.{longestRefused};
-ghost use Rattle.sheet.specs.Put.{Put};
+ghost use Rattle.folds.specs.Put.{Put};
 ghost use Rattle.intake.specs.Intake.{recordSize, recordsIn, recordBytes};
 ghost use Rattle.intake.specs.Posted.{bookPosted, answerLine, refusedLines, LinesRoom};
 

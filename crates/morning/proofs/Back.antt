@@ -14,63 +14,18 @@ use Rattle.folds.specs.Laid.{bytesTo}
 use Rattle.folds.proofs.Rows.{row-back}
 use Rattle.folds.proofs.Laid.{sets-over, number-stays, rows-back}
 use Rattle.book.specs.declared.heads.Head.{Head}
-use Rattle.book.specs.declared.heads.Entry.{Entry}
-use Rattle.book.specs.declared.contracts.Contract.{Contract}
 use Rattle.book.specs.Layout.{headSize, contractSize, memberSize, positionSize, contractsStart, membersStart, positionsStart, contractOff, memberOff, positionOff, bookLength}
 use Rattle.book.specs.Heads.{headAt, totalOf, entryAt, entryOff, headFields, entryFields, contractsEntry, membersEntry, positionsEntry}
-use Rattle.book.specs.Contracts.{contractAt, contractFields, putContract}
+use Rattle.book.specs.Contracts.{contractAt, putContract}
 use Rattle.book.specs.Members.{memberAt, putMember, kindNumberAt, kindNumber}
 use Rattle.book.specs.Positions.{positionAt, putPosition}
 use Rattle.book.specs.Books.{Book}
 use Rattle.book.proofs.Places.{head-within, contract-within, member-within, position-within, book-most}
-use Rattle.book.proofs.Rows.{Same, same-contract, same-member, same-position, MemberFits, PositionFits, member-back, kind-number-back, position-back}
+use Rattle.book.proofs.Rows.{Same, same-contract, same-member, same-position, ContractFits, MemberFits, PositionFits, contract-back, member-back, kind-number-back, position-back}
+use Rattle.book.proofs.Contents.{same-entry, entry-back}
 use Rattle.settlement.specs.Next.{headBytes, nextContract, nextMember, nextPosition, contractBytes, memberBytes, positionBytes, positionsBytes, nextBytes}
 use Rattle.settlement.proofs.Sizes.{contract-size, member-size, position-size, positions-size}
 use Rattle.settlement.proofs.Parts.{head-parts, next-parts, next-length}
-
--- ---- a contract's row
-
-pub record ContractFits (c : Contract) : Type 0 where
-  pub last : c .last .0 < 2 ^ 32
-  pub multiplier : c .multiplier < 2 ^ 32
-  pub rate : c .rate < 2 ^ 32
-  pub fee : c .fee < 2 ^ 32
-  pub delivery : c .delivery < 2 ^ 32
-  pub zero : c .zero < 2 ^ 32
-
-contract-back : (xs : List ℕ) (o : ℕ) (c : Contract) → o + contractSize ≤ length xs → ContractFits c → contractAt (putContract xs o c) o ≡ c
-unfolding contractAt putContract
-contract-back xs o c h f =
-    let g = row-back (contractFields c) xs o refl h in
-    λ i. record {
-      last = record { 0 = (g 0 (lit< tt) ∙ mod-eq-of-lt (f .last)) i };
-      multiplier = (g 1 (lit< tt) ∙ mod-eq-of-lt (f .multiplier)) i;
-      rate = (g 2 (lit< tt) ∙ mod-eq-of-lt (f .rate)) i;
-      fee = (g 3 (lit< tt) ∙ mod-eq-of-lt (f .fee)) i;
-      delivery = (g 4 (lit< tt) ∙ mod-eq-of-lt (f .delivery)) i;
-      zero = (g 5 (lit< tt) ∙ mod-eq-of-lt (f .zero)) i;
-    }
-
--- ---- an entry of the table of contents
-
-pub record EntryFits (e : Entry) : Type 0 where
-  pub section : e .section < 2 ^ 16
-  pub size : e .size < 2 ^ 16
-  pub start : e .start < 2 ^ 32
-
-entry-back : (xs : List ℕ) (o : ℕ) (e : Entry) → o + 8 ≤ length xs → EntryFits e → entryAt (sets xs o (rowBytes (entryFields e))) o ≡ e
-unfolding entryAt
-entry-back xs o e h f =
-    let g = row-back (entryFields e) xs o refl h in
-    λ i. record {
-      section = (g 0 (lit< tt) ∙ mod-eq-of-lt (f .section)) i;
-      size = (g 1 (lit< tt) ∙ mod-eq-of-lt (f .size)) i;
-      start = (g 2 (lit< tt) ∙ mod-eq-of-lt (f .start)) i;
-    }
-
-same-entry : (ys xs : List ℕ) (o : ℕ) → Same ys xs o 8 → entryAt ys o ≡ entryAt xs o
-unfolding entryAt
-same-entry ys xs o s = rw (s 0 2 (omega arith), s 2 2 (omega arith), s 4 4 (omega arith))
 
 module _ (b : Book) (ps : List ℕ) where
   abbrev h : Head

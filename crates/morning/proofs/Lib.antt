@@ -1,3 +1,4 @@
+pub mod Settled
 pub mod Back
 pub mod Fine
 pub mod Balances

@@ -18,6 +18,7 @@ use Rattle.rules.specs.declared.units.Price.{Price}
 use Rattle.rules.specs.declared.units.Fen.{Fen}
 use Rattle.rules.specs.declared.units.Sides.{Sides}
 use Rattle.rules.specs.Ranges.{Amount}
+use Rattle.rules.proofs.Bounds.{amount-add, amount-more}
 use Rattle.book.specs.declared.members.Securities.{Securities}
 use Rattle.book.specs.declared.members.Day.{Day}
 use Rattle.book.specs.declared.members.Member.{Member}
@@ -26,6 +27,7 @@ use Rattle.book.specs.declared.positions.Position.{Position}
 use Rattle.book.specs.declared.accounts.Account.{Account}
 use Rattle.book.specs.Positions.{heldOf, openingOf, heldSides, pairedOf}
 use Rattle.validity.specs.Totals.{SideIn}
+use Rattle.validity.specs.InRange.{MemberIn, PositionIs}
 use Rattle.posting.specs.declared.records.Mark.{Mark}
 use Rattle.posting.specs.declared.records.Mark.the-variants.{Opens, ClosesOld, ClosesNew}
 use Rattle.posting.specs.declared.records.Trade.{Trade}
@@ -38,8 +40,6 @@ use Rattle.posting.specs.declared.accounts.Party.{Party}
 use Rattle.posting.specs.declared.accounts.Party.the-variants.{Buyer, Seller}
 use Rattle.posting.specs.Fills.{wayOf, sideOn, withSide, marked, pairedUp, paid, dealt, enough, roomy, free}
 use Rattle.posting.specs.Postings.{counted, moved, traded, pairedOn, deposited, withdrawn, pledged, tradeRules, pairingRules, depositRules, withdrawalRules, pledgeRules, tradeAnswer, pairingAnswer, depositAnswer, withdrawalAnswer, pledgeAnswer}
-use Rattle.promises.proofs.Amounts.{amount-add, amount-more}
-use Rattle.promises.proofs.RowTests.{MemberIn, PositionIs}
 use Rattle.promises.proofs.Sound.{Sound, Fine}
 
 -- ---- one side of a position

@@ -17,14 +17,16 @@ use Rattle.book.specs.Accounts.{place, accountAt, putAccount, Within}
 use Rattle.book.specs.Books.{bookBy}
 use Rattle.book.proofs.LensLaws.{length-account, head-put}
 use Rattle.validity.specs.Valid.{validBook}
+use Rattle.validity.proofs.Fits.{member-fits}
+use Rattle.validity.proofs.SameHead.{head-kept}
+use Rattle.validity.proofs.AsFacts.{Rows}
 use Rattle.posting.specs.declared.records.Request.{Request}
 use Rattle.posting.specs.Answers.{accounts, step, after}
 use Rattle.posting.proofs.Requests.{Formed, formed}
-use Rattle.promises.proofs.Sound.{Fine, sound-next, member-fits, position-fits}
+use Rattle.promises.proofs.Sound.{Fine, sound-next, position-fits}
 use Rattle.promises.proofs.Changes.{Cancels}
-use Rattle.promises.proofs.Puts.{accountOf, Put, bytes-put, Rows, sound-at, rows-put, balance-one, balance-two}
+use Rattle.promises.proofs.Puts.{accountOf, Put, bytes-put, sound-at, rows-put, balance-one, balance-two}
 use Rattle.promises.proofs.Whole.{Whole, whole-of, of-whole, room}
-use Rattle.promises.proofs.SameHead.{head-kept}
 use Rattle.promises.proofs.Made.{postingAt, stepOf, step-puts, step-refused, Made, one, two, made}
 
 put-of : (h : Head) (xs : List ℕ) (p : Place) (a : Account) → bookLength h ≤ length xs → Rows h (bookBy h xs) → Within h p → Fine (accountOf (bookBy h xs) p) a

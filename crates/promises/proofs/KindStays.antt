@@ -13,12 +13,12 @@ use Rattle.book.specs.Layout.{memberOff, bookLength}
 use Rattle.book.specs.Heads.{headAt}
 use Rattle.book.specs.Members.{kindNumber, kindNumberAt, memberAt}
 use Rattle.book.specs.Accounts.{place, accountAt, putAccount, Within}
-use Rattle.book.proofs.LensLaws.{length-account, kind-kept}
+use Rattle.book.proofs.Rows.{kind-is}
+use Rattle.book.proofs.LensLaws.{length-account, kind-kept, account-kind}
 use Rattle.posting.specs.Records.{requestOf}
 use Rattle.posting.specs.Answers.{accounts, answer, after}
 use Rattle.posting.proofs.Requests.{formed}
 use Rattle.promises.proofs.Sound.{Fine}
-use Rattle.promises.proofs.AccountBack.{kind-back, kind-is}
 use Rattle.promises.proofs.Whole.{Whole, whole-of, room}
 use Rattle.promises.proofs.Made.{step-puts, Made, one, two, made}
 use Rattle.promises.proofs.Answering.{valid-answer, valid-after, accepted-valid}
@@ -33,7 +33,7 @@ kind-put : (h : Head) (xs : List ℕ) (p : Place) (a : Account) → bookLength h
 kind-put h xs p a l w same m k = elim (ℕ-discrete m (p .member)) [
   | yes e ↦
       ap (λ (x : ℕ). kindNumberAt (putAccount h xs p a) (memberOff h x)) e
-      ∙ kind-back h xs p a l w
+      ∙ account-kind h xs p a l w
       ∙ same
       ∙ ap (λ (x : ℕ). kindNumberAt xs (memberOff h x)) (sym e)
   | no ne ↦ kind-kept h xs p a m k ne

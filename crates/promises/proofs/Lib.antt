@@ -1,7 +1,3 @@
-pub mod Amounts
-pub mod RowTests
-pub mod AccountBack
-pub mod SameHead
 pub mod OnePrice
 pub mod Sound
 pub mod Changes
@@ -25,3 +21,4 @@ pub mod ProfitExample
 pub mod EveningOfRecords
 pub mod ProfitOnTheSheet
 pub mod NextDay
+pub mod Promises

@@ -6,7 +6,7 @@ use mathlib.Core.List.{List, [], _∷_, List·Memᴰ, List·Memᴰ·head, List·
 use Prim.Native.Nat.{ℕ, _≤_, _<_}
 use native.Mathlib.Omega.{arith}
 use lib.ListN.{length}
-use Rattle.wire.specs.LittleEndian.{Apart}
+use Rattle.wire.specs.LittleEndian.{numberAt, Apart}
 use Rattle.wire.proofs.Places.{apart-sym}
 use Rattle.order.specs.Lens as lens
 use Rattle.book.specs.declared.heads.Head.{Head}
@@ -15,21 +15,21 @@ use Rattle.book.specs.declared.accounts.Account.{Account}
 use Rattle.book.specs.Layout.{headSize, contractSize, memberSize, positionSize, contractOff, memberOff, positionOff, bookLength}
 use Rattle.book.specs.Heads.{headAt}
 use Rattle.book.specs.Contracts.{contractAt}
-use Rattle.book.specs.Members.{memberAt}
 use Rattle.book.specs.Positions.{positionAt}
 use Rattle.book.specs.Accounts.{place, accountAt, putAccount, Within}
 use Rattle.book.proofs.Places.{head-member, head-position, contract-member, contract-position, members-apart, member-position, positions-apart}
-use Rattle.book.proofs.Rows.{Same, same-contract, same-member, same-position}
-use Rattle.book.proofs.LensLaws.{length-account, account-stays, get-put}
+use Rattle.book.proofs.Rows.{Same, same-contract, same-position}
+use Rattle.book.proofs.Contents.{same-head}
+use Rattle.book.proofs.LensLaws.{length-account, account-stays, get-put, account-back}
 use Rattle.validity.specs.Valid.{validBook}
+use Rattle.validity.proofs.Fits.{member-fits}
 use Rattle.posting.specs.Records.{requestOf}
 use Rattle.posting.specs.Answers.{accounts, placesOf, posting, answer, after}
 use Rattle.promises.specs.Naming.{named, contractNamed}
+use Rattle.promises.specs.Promises.{SameBytes, Untouched}
 use Rattle.posting.proofs.Requests.{formed, standing, places-within}
-use Rattle.promises.proofs.Sound.{Sound, sound-next, member-fits, position-fits}
-use Rattle.promises.proofs.AccountBack.{account-back}
+use Rattle.promises.proofs.Sound.{Sound, sound-next, position-fits}
 use Rattle.promises.proofs.Whole.{whole-of, room}
-use Rattle.promises.proofs.SameHead.{same-head}
 use Rattle.promises.proofs.Made.{postingAt, step-puts, step-refused, Made, one, two, made}
 use Rattle.promises.proofs.Answering.{valid-answer, valid-after, invalid-after, accepted-valid}
 
@@ -48,6 +48,11 @@ length-puts : (h : Head) (xs : List ℕ) (ps : List Place) (as′ : List Account
 length-puts h xs [] as′ = refl
 length-puts h xs (p ∷ ps) [] = refl
 length-puts h xs (p ∷ ps) (a ∷ as′) = length-puts h (putAccount h xs p a) ps as′ ∙ length-account h xs p a
+
+-- numbers of one byte
+same-bytes : (ys xs : List ℕ) (off size : ℕ) → Same ys xs off size → SameBytes ys xs off size
+unfolding numberAt
+same-bytes ys xs off size s i l = omega (arith, s i 1 (omega arith))
 
 module _ (book r : List ℕ) where
   abbrev h : Head
@@ -77,29 +82,48 @@ module _ (book r : List ℕ) where
   counts-stay = same-head (after book r) book head-stays
 
   -- every contract's row
+  contract-same : (j : ℕ) → j < h .contracts → Same (after book r) book (contractOff j) contractSize
+  contract-same j l = bytes-stay (contractOff j) contractSize (λ p k. (contract-member h j (p .member) l, contract-position h j (p .member) (p .contract) l))
+
   pub contract-stays : (j : ℕ) → j < h .contracts → contractAt (after book r) (contractOff j) ≡ contractAt book (contractOff j)
-  contract-stays j l =
-      same-contract _ _ (contractOff j) (bytes-stay (contractOff j) contractSize (λ p k. (contract-member h j (p .member) l, contract-position h j (p .member) (p .contract) l)))
+  contract-stays j l = same-contract _ _ (contractOff j) (contract-same j l)
 
   -- the row of a member that the record does not name
-  pub member-stays : (m : ℕ) → m < h .members → ¬ List·Memᴰ m (named book r) → memberAt (after book r) (memberOff h m) ≡ memberAt book (memberOff h m)
-  member-stays m l un =
-      same-member _ _ (memberOff h m) (bytes-stay (memberOff h m) memberSize
-      (λ p k. (members-apart h m (p .member) (λ e. un (Memᴰ·cast e (standing (requestOf h r) p k .member))), member-position h m (p .member) (p .contract) l)))
+  member-same : (m : ℕ) → m < h .members → ¬ List·Memᴰ m (named book r) → Same (after book r) book (memberOff h m) memberSize
+  member-same m l un =
+      bytes-stay (memberOff h m) memberSize
+      (λ p k. (members-apart h m (p .member) (λ e. un (Memᴰ·cast e (standing (requestOf h r) p k .member))), member-position h m (p .member) (p .contract) l))
 
-  other-row : (m j : ℕ) → j < h .contracts → ((p : Place) → List·Memᴰ p (placesOf h r) → (m ≢ p .member) ⊎ (j ≢ p .contract)) → positionAt (after book r) (positionOff h m j) ≡ positionAt book (positionOff h m j)
+  other-row : (m j : ℕ) → j < h .contracts → ((p : Place) → List·Memᴰ p (placesOf h r) → (m ≢ p .member) ⊎ (j ≢ p .contract)) → Same (after book r) book (positionOff h m j) positionSize
   other-row m j l f =
-      same-position _ _ (positionOff h m j) (bytes-stay (positionOff h m j) positionSize
+      bytes-stay (positionOff h m j) positionSize
       (λ p k. let w = places-within (omega arith) (formed h r) p k in
-      (apart-sym (member-position h (p .member) m j (w .member)), positions-apart h m j (p .member) (p .contract) l (w .contract) (f p k))))
+      (apart-sym (member-position h (p .member) m j (w .member)), positions-apart h m j (p .member) (p .contract) l (w .contract) (f p k)))
 
   -- its row in any contract
+  unnamed-row : (m j : ℕ) → j < h .contracts → ¬ List·Memᴰ m (named book r) → Same (after book r) book (positionOff h m j) positionSize
+  unnamed-row m j l un = other-row m j l (λ p k. inl (λ e. un (Memᴰ·cast e (standing (requestOf h r) p k .member))))
+
   pub position-stays : (m j : ℕ) → j < h .contracts → ¬ List·Memᴰ m (named book r) → positionAt (after book r) (positionOff h m j) ≡ positionAt book (positionOff h m j)
-  position-stays m j l un = other-row m j l (λ p k. inl (λ e. un (Memᴰ·cast e (standing (requestOf h r) p k .member))))
+  position-stays m j l un = same-position _ _ (positionOff h m j) (unnamed-row m j l un)
 
   -- and any member's row in another contract than the record's
+  row-elsewhere : (m j : ℕ) → j < h .contracts → j ≢ contractNamed book r → Same (after book r) book (positionOff h m j) positionSize
+  row-elsewhere m j l ne = other-row m j l (λ p k. inr (λ e. ne (e ∙ standing (requestOf h r) p k .contract)))
+
   pub elsewhere-stays : (m j : ℕ) → j < h .contracts → j ≢ contractNamed book r → positionAt (after book r) (positionOff h m j) ≡ positionAt book (positionOff h m j)
-  elsewhere-stays m j l ne = other-row m j l (λ p k. inr (λ e. ne (e ∙ standing (requestOf h r) p k .contract)))
+  elsewhere-stays m j l ne = same-position _ _ (positionOff h m j) (row-elsewhere m j l ne)
+
+  -- byte for byte
+  pub untouched : Untouched book r
+  untouched = record {
+    whole = length-stays;
+    head = same-bytes _ _ 0 headSize head-stays;
+    contract = λ j l. same-bytes _ _ (contractOff j) contractSize (contract-same j l);
+    member = λ m l un. same-bytes _ _ (memberOff h m) memberSize (member-same m l un);
+    position = λ m j l un. same-bytes _ _ (positionOff h m j) positionSize (unnamed-row m j l un);
+    elsewhere = λ m j l ne. same-bytes _ _ (positionOff h m j) positionSize (row-elsewhere m j l ne);
+  }
 
 -- ---- a refused record
 

@@ -5,11 +5,11 @@ use Prim.Native.Nat.{ℕ, zero, suc, _<_}
 use native.Mathlib.Omega.{arith}
 use lib.ListN.{getD}
 use Rattle.wire.specs.LittleEndian.{numberAt}
-use Rattle.order.specs.Order.{Arranged, SameOutcome}
+use Rattle.order.specs.Order.{Arranged}
 use Rattle.book.specs.Heads.{headAt}
 use Rattle.posting.specs.Records.{recordAt, readDeposit, readWithdrawal, readKind, requestOf}
-use Rattle.posting.specs.Answers.{answer, after}
 use Rattle.promises.specs.Naming.{named, Common}
+use Rattle.promises.specs.SameDay.{SameRun}
 use Rattle.promises.specs.SmallBook.{morning, trade, deposit, withdrawal}
 use Rattle.promises.proofs.OrderOfRecords.{order-of-records}
 
@@ -74,5 +74,5 @@ arranged-example = record { same-length = refl; within = within; once = once; sa
     same-order (suc zero) (suc (suc j)) l l′ c = omega arith
     same-order (suc (suc i)) (suc (suc j)) l l′ c = l
 
-pub same-example : SameOutcome after answer 0 morning one-way other-way to
+pub same-example : SameRun morning one-way other-way to
 same-example = order-of-records morning one-way other-way to arranged-example

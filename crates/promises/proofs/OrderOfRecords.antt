@@ -17,6 +17,7 @@ use Rattle.validity.specs.Valid.{validBook}
 use Rattle.posting.specs.Records.{requestOf, namesOf}
 use Rattle.posting.specs.Answers.{accounts, placesOf, posting, says, step, answer, after}
 use Rattle.promises.specs.Naming.{Common}
+use Rattle.promises.specs.SameDay.{SameRun}
 use Rattle.posting.proofs.Requests.{formed, standing, places-within}
 use Rattle.promises.proofs.Whole.{whole-of, some-contract}
 use Rattle.promises.proofs.Kept.{kept, kept-step}
@@ -83,14 +84,14 @@ idle r r′ = record {
 }
 
 -- Two lists of the same records, those that name a common member in the same order: each record gets the same answer, and the books at the end are equal. For any bytes
-pub order-of-records : (book : List ℕ) (rs rs′ : List (List ℕ)) (to : ℕ → ℕ) → Arranged (Common book) [] rs rs′ to → SameOutcome after answer 0 book rs rs′ to
-order-of-records book rs rs′ to arranged = go (validBook book) refl
+pub order-of-records : (book : List ℕ) (records other : List (List ℕ)) (to : ℕ → ℕ) → Arranged (Common book) [] records other to → SameRun book records other to
+order-of-records book records other to arranged = let s = go (validBook book) refl in record { each = s .each; end = s .end }
   where
-    go : (t : Bool) → validBook book ≡ t → SameOutcome after answer 0 book rs rs′ to
+    go : (t : Bool) → validBook book ≡ t → SameOutcome after answer 0 book records other to
     go true e =
         let k = some-contract (whole-of book e) in
-        order (Good (headAt book) k) (Common book) after answer (λ s r g. (counts-stay s r ∙ g .0, kept s r ∙ g .1)) (commutes (headAt book) k) [] 0 book rs rs′ to (refl, e) arranged
-    go false e = order (λ (s : List ℕ). validBook s ≡ false) (Common book) after answer (λ s r g. kept s r ∙ g) (λ r r′ n. idle r r′) [] 0 book rs rs′ to e arranged
+        order (Good (headAt book) k) (Common book) after answer (λ s r g. (counts-stay s r ∙ g .0, kept s r ∙ g .1)) (commutes (headAt book) k) [] 0 book records other to (refl, e) arranged
+    go false e = order (λ (s : List ℕ). validBook s ≡ false) (Common book) after answer (λ s r g. kept s r ∙ g) (λ r r′ n. idle r r′) [] 0 book records other to e arranged
 
 -- two records alone
 pub swapped : (book r r′ : List ℕ) → ¬ Common book r r′ → after (after book r) r′ ≡ after (after book r′) r

@@ -9,6 +9,7 @@ use lib.Dec.{eqb}
 use lib.IntN.{ℤ, pos, natAbs, _+ℤ_, +ℤ-idl}
 use lib.ListN.{length}
 use Rattle.numbers.specs.Sum.{totalTo}
+use Rattle.numbers.proofs.Ranges.{zero-abs}
 use Rattle.numbers.proofs.Sums.{total-ext}
 use Rattle.folds.specs.Tests.{allTo}
 use Rattle.folds.proofs.Tests.{and-left, and-right, all-at, each}
@@ -30,12 +31,12 @@ use Rattle.book.specs.Heads.{headAt}
 use Rattle.book.specs.Positions.{heldOf, openingOf, heldSides, pairedOf}
 use Rattle.book.specs.Books.{Book, bookAt}
 use Rattle.validity.specs.Valid.{validBook}
+use Rattle.validity.specs.InRange.{PositionIs}
 use Rattle.validity.specs.Opening.{nothing, freshMember, freshSide, freshPosition, freshRows, openingBook}
 use Rattle.posting.specs.Answers.{after}
 use Rattle.promises.specs.Dealings.{dealings, rowAt, dayOf, Stored}
 use Rattle.promises.specs.ByArticle.{pricesBy, contractIn, ByArticle, rowProfit, profitOn}
-use Rattle.promises.proofs.RowTests.{PositionIs}
-use Rattle.promises.proofs.Whole.{zero-abs, whole-of}
+use Rattle.promises.proofs.Whole.{whole-of}
 use Rattle.promises.proofs.Runs.{run-kept, run-counts, run-contract}
 use Rattle.promises.proofs.Grown.{Grew, grown}
 use Rattle.promises.proofs.DayOfRun.{run-moves}

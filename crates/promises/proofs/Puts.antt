@@ -15,8 +15,6 @@ use Rattle.numbers.proofs.Sums.{sum-ext, sum-has, total-ext}
 use Rattle.folds.specs.Tests.{allOf, between}
 use Rattle.folds.proofs.Changed.{sum-one, total-one}
 use Rattle.rules.specs.declared.units.Sides.{Sides}
-use Rattle.rules.specs.declared.members.MemberKind.{MemberKind}
-use Rattle.rules.specs.declared.members.MemberKind.the-variants.{Broker, Other}
 use Rattle.book.specs.declared.heads.Head.{Head}
 use Rattle.book.specs.declared.contracts.Contract.{Contract}
 use Rattle.book.specs.declared.members.Member.{Member}
@@ -28,11 +26,11 @@ use Rattle.book.specs.Members.{kindNumber}
 use Rattle.book.specs.Positions.{openingOf, heldSides, pairedOf}
 use Rattle.book.specs.Accounts.{place, accountAt, putAccount, Within}
 use Rattle.book.specs.Books.{Book, bookBy}
-use Rattle.book.proofs.Rows.{MemberFits, PositionFits}
-use Rattle.book.proofs.LensLaws.{contract-kept, member-kept, kind-kept, position-kept}
+use Rattle.book.proofs.Rows.{MemberFits, PositionFits, kind-known}
+use Rattle.book.proofs.LensLaws.{contract-kept, member-kept, kind-kept, position-kept, account-back, account-kind}
 use Rattle.validity.specs.Valid.{contractTests, longsTo, shortsTo, cashTo}
-use Rattle.promises.proofs.AccountBack.{account-back, kind-back}
-use Rattle.promises.proofs.RowTests.{MemberIn, PositionIs}
+use Rattle.validity.specs.InRange.{MemberIn, PositionIs}
+use Rattle.validity.proofs.AsFacts.{Rows, Level, Balance}
 use Rattle.promises.proofs.Sound.{Sound, Fine}
 use Rattle.promises.proofs.Changes.{Even, Cancels}
 
@@ -55,33 +53,13 @@ pub bytes-put : (h : Head) (xs : List ℕ) (p : Place) (a : Account) → bookLen
 unfolding accountAt
 bytes-put h xs p a room w f g = record {
   contracts = contract-kept h xs p a;
-  kind = kind-back h xs p a room w;
+  kind = account-kind h xs p a room w;
   kinds = kind-kept h xs p a;
   member = ap (λ (x : Account). x .member) (account-back h xs p a room w f g);
   members = member-kept h xs p a;
   position = ap (λ (x : Account). x .position) (account-back h xs p a room w f g);
   positions = λ m j lm lj ne. position-kept h xs p a m j w lj ne;
 }
-
--- ---- validity of the rows and of the sums, as facts
-
--- every row in range, and each member's traded lots at most 10,000 to a record
-pub record Rows (h : Head) (b : Book) : Type 0 where
-  pub contracts : (j : ℕ) → j < h .contracts → allOf (contractTests (b .contract j)) ≡ true
-  pub kinds : (m : ℕ) → m < h .members → between 1 2 (b .kindNumber m) ≡ true
-  pub members : (m : ℕ) → m < h .members → MemberIn (b .member m)
-  pub positions : (m j : ℕ) → m < h .members → j < h .contracts → PositionIs (b .position m j)
-  pub traded : (m : ℕ) → m < h .members → sumTo (λ (j : ℕ). b .position m j .traded .0) (h .contracts) ≤ 10_000 * b .member m .accepted
-
--- of one count: in each contract as many long as short
-abbrev pub Level : (Position → Sides) → Head → Book → Type 0
-Level count h b = (j : ℕ) → j < h .contracts → longsTo count b j (h .members) ≡ shortsTo count b j (h .members)
-
-pub record Balance (h : Head) (b : Book) : Type 0 where
-  pub opening : Level openingOf h b
-  pub held : Level heldSides h b
-  pub paired : Level pairedOf h b
-  pub cash : (j : ℕ) → j < h .contracts → cashTo b j (h .members) ≡ pos 0
 
 pub sound-at : {h : Head} {b : Book} (p : Place) → Rows h b → Within h p → Sound (accountOf b p)
 sound-at {h} {b} p r w = record {
@@ -91,10 +69,6 @@ sound-at {h} {b} p r w = record {
 }
 
 -- ---- one account put back
-
-kind-known : (k : MemberKind) → between 1 2 (kindNumber k) ≡ true
-kind-known Broker = refl
-kind-known Other = refl
 
 module _ {h : Head} {b b′ : Book} {p : Place} {a : Account} (put : Put h b b′ p a) (w : Within h p) where
   pub rows-put : Rows h b → Fine (accountOf b p) a → Rows h b′

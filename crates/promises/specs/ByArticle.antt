@@ -1,8 +1,9 @@
--- 000, article 31: a member's profit or loss of a day over all contracts, from the accepted records by the article, and from the book at the end of the day.
-use Prim.Native.Nat.{ℕ, _<_}
+-- 000, article 31: a member's profit or loss of a day over all contracts, by the article from the accepted records, from the book at the end of the day, and as settlement writes it.
+use Prim.Native.Nat.{ℕ, _+_, _*_, _<_}
 use mathlib.Core.Path.{_≡_}
 use mathlib.Core.List.{List}
 use lib.IntN.{ℤ}
+use Rattle.wire.specs.LittleEndian.{signedAt}
 use Rattle.numbers.specs.Sum.{totalTo}
 use Rattle.rules.specs.declared.units.Fen.{Fen}
 use Rattle.rules.specs.declared.units.Price.{Price}
@@ -16,6 +17,8 @@ use Rattle.book.specs.Layout.{contractOff}
 use Rattle.book.specs.Heads.{headAt}
 use Rattle.book.specs.Contracts.{contractAt}
 use Rattle.book.specs.Positions.{openingOf, heldSides, pairedOf}
+use Rattle.settlement.specs.Next.{resultSize}
+use Rattle.settlement.specs.Settle.{resultsAfter}
 use Rattle.promises.specs.Dealings.{rowAt, dayOf}
 
 -- the last settlement price from the contract's row, tonight's and the delivery price as handed in
@@ -39,3 +42,7 @@ rowProfit c p tonight delivery = profitOf (c .multiplier) (p .cash) (heldSides p
 
 abbrev pub profitOn : (book : List ℕ) (tonight delivery : ℕ → Price) (m : ℕ) → Fen
 profitOn book tonight delivery m = fen (totalTo (λ (j : ℕ). rowProfit (contractIn book j) (rowAt (headAt book) book m j) (tonight j) (delivery j) .0) (headAt book .contracts))
+
+-- as settlement writes it in the results: the second of the nine fields of eight bytes in member m's row
+abbrev pub writtenProfit : (book prices next results : List ℕ) (m : ℕ) → ℤ
+writtenProfit book prices next results m = signedAt (resultsAfter book prices next results) (m * resultSize + 8)

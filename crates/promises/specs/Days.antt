@@ -3,11 +3,10 @@ use Prim.Native.Nat.{ℕ}
 use mathlib.Core.Path.{_≡_}
 use mathlib.Core.List.{List}
 use lib.ListN.{length, take}
-use Rattle.order.specs.Order.{final}
 use Rattle.book.specs.Layout.{bookLength}
 use Rattle.book.specs.Heads.{headAt}
-use Rattle.posting.specs.Answers.{after}
 use Rattle.settlement.specs.Settle.{settleAnswer, nextAfter}
+use Rattle.promises.specs.Runs.{endOf}
 
 -- the book that the evening writes: the first bytes of the room lent for it
 abbrev pub nextBook : List ℕ → List ℕ → List ℕ → List ℕ → List ℕ
@@ -24,5 +23,5 @@ pub record Day : Type 0 where
 pub data Morning (first : List ℕ) : List ℕ → Type 0 where
   the-first : Morning first first
   the-next : {book : List ℕ} → Morning first book → (day : Day)
-      → settleAnswer (final after book (day .records)) (day .prices) (length (day .next)) (length (day .results)) ≡ 0
-      → Morning first (nextBook (final after book (day .records)) (day .prices) (day .next) (day .results))
+      → settleAnswer (endOf book (day .records)) (day .prices) (length (day .next)) (length (day .results)) ≡ 0
+      → Morning first (nextBook (endOf book (day .records)) (day .prices) (day .next) (day .results))

@@ -6,7 +6,6 @@ use mathlib.Core.List.{List, [], _∷_, _++_}
 use lib.Dec.{eqb}
 use lib.ListN.{length, replicate}
 use Rattle.folds.specs.First.{onZero}
-use Rattle.order.specs.Order.{answers}
 use Rattle.rules.specs.declared.units.Lots.{Lots}
 use Rattle.rules.specs.declared.units.Price.{Price}
 use Rattle.rules.specs.Units.{lots}
@@ -26,7 +25,7 @@ use Rattle.posting.specs.declared.accounts.Way.the-variants.{Long, Short}
 use Rattle.posting.specs.declared.accounts.Party.{Party}
 use Rattle.posting.specs.declared.accounts.Party.the-variants.{Buyer, Seller}
 use Rattle.posting.specs.Records.{requestOf}
-use Rattle.posting.specs.Answers.{answer, after}
+use Rattle.promises.specs.Runs.{answersTo}
 
 -- ---- read off the records
 
@@ -59,7 +58,7 @@ fillsIn h (r ∷ rs) m j = fillsOf (requestOf h r) m j ++ fillsIn h rs m j
 
 -- in their order
 abbrev pub dealings : (book : List ℕ) (rs : List (List ℕ)) (m j : ℕ) → List Fill
-dealings book rs m j = fillsIn (headAt book) (acceptedOf (answers after answer book rs) rs) m j
+dealings book rs m j = fillsIn (headAt book) (acceptedOf (answersTo book rs) rs) m j
 
 -- ---- as a day of article 31
 

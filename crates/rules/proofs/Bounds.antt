@@ -5,13 +5,13 @@ use Prim.Native.Nat.{ℕ, _+_, _*_, _^_, _≤_, zero-le}
 use native.Mathlib.Nat.{mul-le-mul}
 use native.Mathlib.Omega.{arith}
 use lib.Dec.{lit≤, ltb, leb, nleb→lt}
-use lib.IntN.{ℤ, pos, negsuc}
+use lib.IntN.{ℤ, pos, negsuc, _+ℤ_}
 use lib.Signed.{_≤ℤ_, leZ, leZ-yes}
 use Rattle.numbers.specs.Range.{In}
 use Rattle.numbers.specs.Choice.{largerOf}
-use Rattle.numbers.specs.Linear.{k}
+use Rattle.numbers.specs.Linear.{v, k, _⊕_}
 use Rattle.numbers.proofs.Ranges.{in-add, in-sub, in-mul, in-quot, in-pos, in-lit, in-weaken, cond-ind}
-use Rattle.numbers.proofs.Linears.{lin-le}
+use Rattle.numbers.proofs.Linears.{lin-le, le-lin}
 use Rattle.numbers.proofs.Choices.{in-larger}
 use Rattle.rules.specs.Units.{Fen, fen, Lots, Price, Sides, Prices, Figures, Movements}
 use Rattle.rules.specs.Ranges.{Amount, moneyMost, reserveMost, FiguresIn, RoomLeftIn, SidesIn, MarginIn, ProfitIn, FeeIn, MoneyTonightIn, ReserveTonightIn, FiguresTonightIn}
@@ -30,6 +30,15 @@ fen-is e = ap (λ (amount : Fen). amount .0) e
 -- a natural number of fen
 pub amount : {most n : ℕ} → n ≤ most → Amount most (fen (pos n))
 amount {n = n} h = record { within = in-pos h; low = lin-le (k 0) (k n) (omega arith) }
+
+pub amount-add : {A B : ℕ} (x y : Fen) → Amount A x → Amount B y → Amount (A + B) (fen (x .0 +ℤ y .0))
+amount-add x y a b = record {
+  within = in-add (a .within) (b .within);
+  low = lin-le (k 0) (v (x .0) ⊕ v (y .0)) (omega (arith, le-lin (k 0) (v (x .0)) (a .low), le-lin (k 0) (v (y .0)) (b .low)));
+}
+
+pub amount-more : {A B : ℕ} (x : Fen) → A ≤ B → Amount A x → Amount B x
+amount-more x l a = record { within = in-weaken l (a .within); low = a .low }
 
 at-least-zero : {most : ℕ} {z : ℤ} → In most z → Amount most (fen (largerOf (pos 0) z))
 at-least-zero {most} {z} h =

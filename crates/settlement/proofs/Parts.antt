@@ -1,33 +1,20 @@
 -- The head's and the next book's parts, laid down one after the other, are the whole; and how long each is.
-use mathlib.Core.Path.{_≡_, refl, sym, ap, _∙_}
-use mathlib.Core.List.{List, _++_}
+use mathlib.Core.Path.{_≡_, ap, _∙_}
+use mathlib.Core.List.{List}
 use Prim.Native.Nat.{ℕ, _+_, _*_}
-use native.Mathlib.Nat.{zero-add}
 use native.Mathlib.Omega.{arith}
-use lib.ListN.{length, length-append}
+use lib.ListN.{length}
 use lib.Seq.{sets}
 use Rattle.folds.specs.Rows.{rowBytes}
 use Rattle.folds.specs.Laid.{bytesTo}
 use Rattle.folds.proofs.Rows.{length-row}
-use Rattle.folds.proofs.Laid.{sets-append, length-to}
+use Rattle.folds.proofs.Laid.{length-to, four, length-four}
 use Rattle.book.specs.declared.heads.Head.{Head}
 use Rattle.book.specs.Layout.{headSize, contractSize, memberSize, positionSize, contractsStart, membersStart, positionsStart, memberOff, positionOff, bookLength}
 use Rattle.book.specs.Heads.{entryOff, headFields, entryFields, contractsEntry, membersEntry, positionsEntry}
 use Rattle.book.specs.Books.{Book}
 use Rattle.settlement.specs.Next.{headBytes, contractBytes, memberBytes, positionsBytes, nextBytes, resultSize, resultRow, resultBytes}
 use Rattle.settlement.proofs.Sizes.{contract-size, member-size, positions-size, result-size}
-
--- four parts, at i, j and k after the first
-pub four : (l a b c d : List ℕ) (i j k : ℕ) → length a ≡ i → i + length b ≡ j → j + length c ≡ k
-    → sets (sets (sets (sets l 0 a) i b) j c) k d ≡ sets l 0 (a ++ (b ++ (c ++ d)))
-four l a b c d i j k p q r =
-    sym
-    (sets-append l 0 a (b ++ (c ++ d)) ∙ ap (λ (x : ℕ). sets (sets l 0 a) x (b ++ (c ++ d))) (zero-add (length a) ∙ p)
-    ∙ sets-append (sets l 0 a) i b (c ++ d) ∙ ap (λ (x : ℕ). sets (sets (sets l 0 a) i b) x (c ++ d)) q
-    ∙ sets-append (sets (sets l 0 a) i b) j c d ∙ ap (λ (x : ℕ). sets (sets (sets (sets l 0 a) i b) j c) x d) r)
-
-length-four : (a b c d : List ℕ) → length (a ++ (b ++ (c ++ d))) ≡ length a + length b + length c + length d
-length-four a b c d = omega (arith, length-append a (b ++ (c ++ d)), length-append b (c ++ d), length-append c d)
 
 -- ---- the head
 

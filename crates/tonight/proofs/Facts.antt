@@ -1,23 +1,19 @@
 -- What a valid book and prices that have passed say of the ranges of a night.
-use mathlib.Core.Path.{_≡_, _∙_}
+use mathlib.Core.Path.{_≡_}
 use mathlib.Core.Bool.{true}
 use mathlib.Core.List.{List}
 use Prim.{tt}
-use Prim.Native.Nat.{ℕ, _*_, _^_, _≤_, _<_}
+use Prim.Native.Nat.{ℕ, _*_, _<_}
 use native.Mathlib.Nat.{le-trans}
 use native.Mathlib.Omega.{arith}
 use borrow.Author.Tests.{leb-true, eqb-true}
-use lib.Dec.{leb, eqb, lit≤}
-use lib.IntN.{pos, natAbs}
-use lib.Signed.{leZ}
+use lib.Dec.{eqb, lit≤}
 use lib.ListN.{length}
 use Rattle.numbers.proofs.Ranges.{in-weaken}
-use Rattle.numbers.proofs.Linears.{le-true}
-use Rattle.folds.specs.Tests.{allTo, allOf, between}
+use Rattle.folds.specs.Tests.{allTo}
 use Rattle.folds.proofs.Tests.{and-left, and-right, all-at, each, between-high}
-use Rattle.rules.specs.declared.units.Fen.{Fen}
 use Rattle.rules.specs.declared.units.Prices.{Prices}
-use Rattle.rules.specs.Ranges.{Amount, AtMost, SidesIn, ProfitIn, FeeIn, MarginIn, FiguresIn, FiguresTonightIn}
+use Rattle.rules.specs.Ranges.{AtMost, SidesIn, ProfitIn, FeeIn, MarginIn, FiguresIn, FiguresTonightIn}
 use Rattle.rules.specs.Margin.{remainingOf, largerSideOf}
 use Rattle.rules.specs.declared.units.Movements.{Movements}
 use Rattle.rules.specs.Securities.{discountedOf}
@@ -28,49 +24,14 @@ use Rattle.book.specs.declared.members.Member.{Member}
 use Rattle.book.specs.declared.positions.Position.{Position}
 use Rattle.book.specs.Positions.{openingOf, heldSides, pairedOf}
 use Rattle.book.specs.Books.{Book, bookBy}
-use Rattle.validity.specs.Valid.{upTo, contractTests, memberTests}
-use Rattle.validity.specs.Totals.{Ranged, PositionIn}
-use Rattle.validity.proofs.Facts.{contract-row, member-row, position-in, traded-most, accepted-most, up-is}
+use Rattle.validity.specs.Totals.{PositionIn}
+use Rattle.validity.specs.InRange.{MemberIn}
+use Rattle.validity.proofs.Facts.{position-in, traded-most}
+use Rattle.validity.proofs.RowTests.{contract-in}
+use Rattle.validity.proofs.Fits.{deposits-most, withdrawals-most}
 use Rattle.tonight.specs.Prices.{pairSize, tonightAt, deliveryAt, pricesBy, nonePaired, pairTests, pairOk, pricesOk}
 use Rattle.tonight.specs.Night.{Tally, tallyBy, figuresAfter}
-use Rattle.tonight.specs.Evening.{Priced, Evening, ContractIn, RowsIn, TallyFew, MemberIn}
-
--- ---- rows of the book
-
-pub contract-in : (b : Book) → Ranged b → (j : ℕ) → j < b .head .contracts → ContractIn (b .contract j)
-contract-in b r j l =
-    let c : Contract = b .contract j in
-    let t = each (contractTests c) (contract-row b (r .rows) j l) in
-    record {
-      last = between-high 1 10_000_000 (c .last .0) (t 0);
-      multiplier = between-high 1 100 (c .multiplier) (t 1);
-      rate = between-high 1 10_000 (c .rate) (t 2);
-      fee = leb-true (c .fee) 100_000 (t 3);
-      delivery = leb-true (c .delivery) 100_000 (t 4);
-    }
-
-pub amount-in : (most : ℕ) (amount : Fen) → upTo most amount ≡ true → Amount most amount
-amount-in most amount e =
-    let t = up-is (amount .0) most ∙ e in
-    record {
-      within = record { within = leb-true (natAbs (amount .0)) most (and-right (leZ (pos 0) (amount .0)) (leb (natAbs (amount .0)) most) t) };
-      low = le-true (pos 0) (amount .0) (and-left (leZ (pos 0) (amount .0)) (leb (natAbs (amount .0)) most) t);
-    }
-
-pub member-in : (b : Book) → Ranged b → (m : ℕ) → m < b .head .members → MemberIn (b .member m)
-member-in b s m l =
-    let r : Member = b .member m in
-    let t = each (memberTests r) (and-right (between 1 2 (b .kindNumber m)) (allOf (memberTests r)) (member-row b (s .rows) m l)) in
-    let most : 10 ^ 12 * r .accepted ≤ 2 * 10 ^ 16 = omega (arith, accepted-most b (s .rows) m l) in
-    record {
-      reserve = record { within = leb-true (natAbs (r .figures .reserve .0)) (10 ^ 15) (t 1) };
-      margin = amount-in (10 ^ 16) (r .figures .margin) (t 2) .within;
-      usable = amount-in (10 ^ 15) (r .figures .usable) (t 3) .within;
-      market = amount-in (10 ^ 15) (r .securities .market) (t 4);
-      discount = leb-true (r .securities .discount) 8_000 (t 5);
-      deposits = in-weaken most (amount-in (10 ^ 12 * r .accepted) (r .day .deposits) (t 6) .within);
-      withdrawals = in-weaken most (amount-in (10 ^ 12 * r .accepted) (r .day .withdrawals) (t 7) .within);
-    }
+use Rattle.tonight.specs.Evening.{Priced, Evening, RowsIn, TallyFew}
 
 -- ---- prices
 
@@ -145,11 +106,11 @@ module _ (r : Member) (t : Tally) (h : MemberIn r) (few : TallyFew 32 t) where
       let d = discounted-in (r .securities .market) (r .securities .discount) (h .market) (h .discount) in
       record {
         reserve-in = h .reserve;
-        morning-margin-in = h .margin;
-        usable-in = h .usable;
+        morning-margin-in = h .margin .within;
+        usable-in = h .usable .within;
         profit-in = in-weaken (lit≤ tt) (few .profit);
-        deposits-in = h .deposits;
-        withdrawals-in = h .withdrawals;
+        deposits-in = deposits-most r h;
+        withdrawals-in = withdrawals-most r h;
         fee-in = in-weaken (lit≤ tt) (few .fee .within);
         discounted-in = record { within = in-weaken (lit≤ tt) (d .within); low = d .low };
         margin-in = in-weaken (lit≤ tt) (few .margin .within);

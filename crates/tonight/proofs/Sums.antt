@@ -13,7 +13,8 @@ use Rattle.book.specs.Books.{Book, bookBy}
 use Rattle.tonight.specs.Prices.{pricesBy}
 use Rattle.tonight.specs.Night.{tallyIn, addTally, noTally, tallyTo, nightOf}
 use Rattle.tonight.specs.Evening.{Evening, TallyFew}
-use Rattle.tonight.proofs.Facts.{member-in, rows-in, tally-one, figures-in}
+use Rattle.validity.proofs.RowTests.{member-in}
+use Rattle.tonight.proofs.Facts.{rows-in, tally-one, figures-in}
 
 module _ (b : Book) (ps : List ℕ) (m : ℕ) where
   abbrev profitAt : ℕ → ℤ

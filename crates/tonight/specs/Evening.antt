@@ -7,11 +7,11 @@ use Rattle.rules.specs.declared.units.Prices.{Prices}
 use Rattle.rules.specs.Ranges.{Amount, PricesIn}
 use Rattle.book.specs.declared.heads.Head.{Head}
 use Rattle.book.specs.declared.contracts.Contract.{Contract}
-use Rattle.book.specs.declared.members.Member.{Member}
 use Rattle.book.specs.declared.positions.Position.{Position}
 use Rattle.book.specs.Books.{Book, bookBy}
 use Rattle.book.specs.Accounts.{Shaped}
 use Rattle.validity.specs.Totals.{Ranged, PositionIn}
+use Rattle.validity.specs.InRange.{ContractIn}
 use Rattle.tonight.specs.Prices.{pairSize, tonightAt, deliveryAt}
 use Rattle.tonight.specs.Night.{Tally}
 
@@ -25,13 +25,6 @@ pub record Evening (xs ps : List ℕ) (h : Head) : Type 0 where
   pub ranged : Ranged (bookBy h xs)
   pub priced : Priced h ps
 
-pub record ContractIn (c : Contract) : Type 0 where
-  pub last : c .last .0 ≤ 10_000_000
-  pub multiplier : c .multiplier ≤ 100
-  pub rate : c .rate ≤ 10_000
-  pub fee : c .fee ≤ 100_000
-  pub delivery : c .delivery ≤ 100_000
-
 -- what one contract's tally is computed from
 pub record RowsIn (c : Contract) (p : Position) (prices : Prices) : Type 0 where
   pub contract : ContractIn c
@@ -44,12 +37,3 @@ pub record TallyFew (count : ℕ) (t : Tally) : Type 0 where
   pub profit : In (count * (2_008 * 10 ^ 14)) (t .profit .0)
   pub fee : Amount (count * (2_002 * 10 ^ 10)) (t .fee)
   pub margin : Amount (count * (2 * 10 ^ 14)) (t .margin)
-
-pub record MemberIn (r : Member) : Type 0 where
-  pub reserve : In (10 ^ 15) (r .figures .reserve .0)
-  pub margin : In (10 ^ 16) (r .figures .margin .0)
-  pub usable : In (10 ^ 15) (r .figures .usable .0)
-  pub market : Amount (10 ^ 15) (r .securities .market)
-  pub discount : r .securities .discount ≤ 8_000
-  pub deposits : In (2 * 10 ^ 16) (r .day .deposits .0)
-  pub withdrawals : In (2 * 10 ^ 16) (r .day .withdrawals .0)

@@ -9,8 +9,9 @@ use rules::units::Movements;
 ghost use mathlib.Core.Path.{_≡_};
 ghost use Prim.Native.Nat.{_<_};
 ghost use Rattle.book.specs.Books.{bookBy};
+ghost use Rattle.validity.specs.InRange.{MemberIn};
 ghost use Rattle.tonight.specs.Night.{figuresAfter, nightAfter, nightOf, reservesOk};
-ghost use Rattle.tonight.specs.Evening.{Evening, TallyFew, MemberIn};
+ghost use Rattle.tonight.specs.Evening.{Evening, TallyFew};
 
 // What the sheet says of a member; margin, usable and reserve are its figures.
 pub struct Night {

@@ -2,3 +2,4 @@
 pub mod Valid
 pub mod Opening
 pub mod Totals
+pub mod InRange

@@ -4,7 +4,7 @@ use mathlib.Core.List.{_++_}
 use native.Mathlib.Omega.{arith}
 use Prim.Native.Nat.{_-_}
 use lib.ListN.{take, drop}
-use Rattle.sheet.proofs.Puts.{put-same}
+use Rattle.folds.proofs.Puts.{put-same}
 use Rattle.intake.specs.Posted.{refusedLines, bookPosted}
 use borrow.Author.Needs.{needs}
 use Rattle.evening.proofs.slices.post_records.Statement.{statement}

@@ -2,7 +2,7 @@ use mathlib.Core.Path.{_≡_, sym}
 use native.Mathlib.Omega.{arith}
 use Rattle.folds.proofs.First.{on-refusal}
 use Rattle.sheet.specs.Sheet.{sheetText, settlementRefused}
-use Rattle.sheet.proofs.Puts.{put-same}
+use Rattle.folds.proofs.Puts.{put-same}
 use Rattle.intake.specs.Posted.{outcome}
 use Rattle.intake.proofs.Lines.{the-sheet, the-refusal}
 use borrow.Author.Needs.{needs}

@@ -6,8 +6,8 @@ use Prim.Native.Nat.{ℕ, _+_, _-_, _*_, _≤_, zero-le}
 use lib.ListN.{length}
 use Rattle.folds.specs.Laid.{bytesTo}
 use Rattle.sheet.specs.Sheet.{lineOf, sheetText, longestLine}
-use Rattle.sheet.specs.Put.{Put}
-use Rattle.sheet.proofs.Puts.{put-same, put-then, put-none, put-next}
+use Rattle.folds.specs.Put.{Put}
+use Rattle.folds.proofs.Puts.{put-same, put-then, put-none, put-next}
 use Rattle.intake.proofs.outcome.put_sheet.Statement.{statement}
 use Rattle.intake.proofs.outcome.put_sheet.Tie as tie
 

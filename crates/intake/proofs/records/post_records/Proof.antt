@@ -6,8 +6,8 @@ use mathlib.Core.List.{List}
 use Prim.Native.Nat.{ℕ, _+_, _-_, _*_, _≤_, zero-le}
 use lib.ListN.{length}
 use Rattle.sheet.specs.Sheet.{longestRefused}
-use Rattle.sheet.specs.Put.{Put}
-use Rattle.sheet.proofs.Puts.{put-same, put-none, put-next}
+use Rattle.folds.specs.Put.{Put}
+use Rattle.folds.proofs.Puts.{put-same, put-none, put-next}
 use Rattle.posting.specs.Answers.{answer, after}
 use Rattle.intake.specs.Intake.{recordSize, recordsIn, recordBytes}
 use Rattle.intake.specs.Posted.{bookAfter, answerTo, answerLine, linesTo}

@@ -1,6 +1,6 @@
 use mathlib.Core.Path.{refl, sym}
 use native.Mathlib.Omega.{arith}
-use Rattle.sheet.proofs.Puts.{put-same}
+use Rattle.folds.proofs.Puts.{put-same}
 use Rattle.intake.proofs.Lines.{no-line, one-line}
 use borrow.Author.Needs.{needs}
 use Rattle.intake.proofs.records.put_answer.Statement.{statement}

@@ -15,7 +15,9 @@ use Rattle.rules.specs.Securities.{discountedOf}
 use Rattle.rules.specs.Night.{figuresTonightOf}
 use Rattle.book.specs.declared.members.Member.{Member}
 use Rattle.tonight.specs.Night.{Tally}
-use Rattle.tonight.specs.Evening.{MemberIn, TallyFew}
+use Rattle.validity.specs.InRange.{MemberIn}
+use Rattle.validity.proofs.Fits.{deposits-most, withdrawals-most}
+use Rattle.tonight.specs.Evening.{TallyFew}
 use Rattle.tonight.proofs.Facts.{moved, figures-asks}
 use Rattle.tonight.proofs.nights.figures_after.Statement.{statement}
 use Rattle.tonight.proofs.nights.figures_after.Tie as tie
@@ -23,8 +25,8 @@ use Rattle.tonight.proofs.nights.figures_after.Tie as tie
 passed : (r : Member) (t : Tally) (h : MemberIn r) (few : TallyFew 32 t) → record { profit = fen (toZ w64 (ofZ w64 (t .profit .0))); deposits = fen (toZ w64 (ofZ w64 (r .day .deposits .0))); withdrawals = fen (toZ w64 (ofZ w64 (r .day .withdrawals .0))); fee = fen (toZ w64 (ofZ w64 (t .fee .0))) } ≡ moved r t h few
 passed r t h few i = record {
   profit = record { 0 = back tt (few .profit) i };
-  deposits = record { 0 = back tt (h .deposits) i };
-  withdrawals = record { 0 = back tt (h .withdrawals) i };
+  deposits = record { 0 = back tt (deposits-most r h) i };
+  withdrawals = record { 0 = back tt (withdrawals-most r h) i };
   fee = record { 0 = back tt (few .fee .within) i };
 }
 

@@ -11,7 +11,7 @@ use Rattle.book.proofs.Places.{contract-within, member-within, position-within}
 use Prim.Native.Nat.{ℕ}
 use native.Mathlib.Nat.{le-refl}
 use Rattle.tonight.specs.Night.{nightAfter, nightOf}
-use Rattle.tonight.proofs.Facts.{member-in}
+use Rattle.validity.proofs.RowTests.{member-in}
 use Rattle.tonight.proofs.Sums.{tally-few}
 use Rattle.tonight.proofs.nights.night_of.Statement.{statement}
 use Rattle.tonight.proofs.nights.night_of.Tie as tie
