@@ -1,9 +1,9 @@
 // The library that others link: the exported functions, and nothing else. None asks anything of its caller.
 ghost use mathlib.Core.Path.{_≡_};
 ghost use lib.ListN.{length};
+ghost use Rattle.validity.specs.Valid.{checkAnswer};
 ghost use Rattle.posting.specs.Answers.{answer, after};
 ghost use Rattle.settlement.specs.Settle.{settleAnswer, nextAfter, resultsAfter};
-ghost use Rattle.clearing.specs.Answers.{checkAnswer};
 
 // 0 exactly if the bytes are a valid book, else 10.
 #[no_mangle]

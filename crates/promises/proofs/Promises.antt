@@ -1,7 +1,7 @@
 -- Each promise, by the theorem that proves it.
 use mathlib.Core.Path.{sym, _∙_}
 use Rattle.morning.proofs.Morning as morning
-use Rattle.promises.specs.Promises.{Kept, OnlyTheNamed, RefusedChangesNothing, AcceptedMakes, Counted, TradedCounted, Order, EveningAfterOrder, Profit, SomePairing, ProfitOnTheSheet, NextMorning, EveryMorning, DayAfterDay, OnePosting, OneSettlement}
+use Rattle.promises.specs.Promises.{Kept, OnlyTheNamed, RefusedChangesNothing, AcceptedMakes, Counted, TradedCounted, Order, EveningAfterOrder, Profit, SomePairing, ProfitOnTheSheet, NextMorning, EveryMorning, DayAfterDay, OneCheck, OnePosting, OneSettlement}
 use Rattle.promises.proofs.Kept as kept
 use Rattle.promises.proofs.OnlyNamed.{untouched, refused-stays, accepted-makes}
 use Rattle.promises.proofs.Counted.{accepted-counts, traded-counts}
@@ -52,6 +52,9 @@ each-morning = every-morning
 
 pub day-after-day : DayAfterDay
 day-after-day = every-evening
+
+pub one-check : OneCheck
+one-check book number other a b = a ∙ sym b
 
 pub one-posting : OnePosting
 one-posting book r number other left left′ a b = (a .answered ∙ sym (b .answered), a .bytes ∙ sym (b .bytes))

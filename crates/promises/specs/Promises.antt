@@ -14,7 +14,7 @@ use Rattle.rules.specs.declared.units.Price.{Price}
 use Rattle.book.specs.Layout.{headSize, contractSize, memberSize, positionSize, contractOff, memberOff, positionOff}
 use Rattle.book.specs.Heads.{headAt}
 use Rattle.book.specs.Members.{memberAt}
-use Rattle.validity.specs.Valid.{validBook}
+use Rattle.validity.specs.Valid.{validBook, checkAnswer}
 use Rattle.validity.specs.Opening.{openingBook}
 use Rattle.posting.specs.Records.{requestOf}
 use Rattle.posting.specs.Answers.{accounts, placesOf, posting, answer, after}
@@ -121,7 +121,11 @@ DayAfterDay = (first book : List ℕ) → openingBook first ≡ true → Morning
 
 -- ---- one outcome
 
--- an outcome that clearing_post's contract allows: the number answered and the book's bytes left
+-- an outcome that clearing_check's contract allows: the number answered; it is lent nothing to write to
+abbrev pub CheckAllows : (book : List ℕ) (number : ℕ) → Type 0
+CheckAllows book number = number ≡ checkAnswer book
+
+-- clearing_post's: the number, and the book's bytes left
 pub record PostAllows (book r : List ℕ) (number : ℕ) (left : List ℕ) : Type 0 where
   pub answered : number ≡ answer book r
   pub bytes : left ≡ after book r
@@ -133,6 +137,9 @@ pub record SettleAllows (book prices next results : List ℕ) (number : ℕ) (ne
   pub sheet-bytes : results′ ≡ resultsAfter book prices next results
 
 -- What the promises say: "two outcomes allowed by a promise are proved equal".
+abbrev pub OneCheck : Type 0
+OneCheck = (book : List ℕ) (number other : ℕ) → CheckAllows book number → CheckAllows book other → number ≡ other
+
 abbrev pub OnePosting : Type 0
 OnePosting = (book r : List ℕ) (number other : ℕ) (left left′ : List ℕ) → PostAllows book r number left → PostAllows book r other left′ → (number ≡ other) × (left ≡ left′)
 

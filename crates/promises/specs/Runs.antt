@@ -1,4 +1,4 @@
--- A list of records posted one after the other: the answers, one for each, and the book at the end.
+-- 01, Day records: a list of records posted one after the other: the answers, one for each, and the book at the end.
 use Prim.Native.Nat.{ℕ}
 use mathlib.Core.List.{List}
 use Rattle.order.specs.Order.{final, answers}

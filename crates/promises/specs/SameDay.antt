@@ -1,4 +1,4 @@
--- Demand 3: what two lists of the same records have in common, to `i` being the place in `other` of the record at place i of `records`.
+-- 01, What the promises say, and demand 3: what two lists of the same records have in common, to `i` being the place in `other` of the record at place i of `records`.
 use Prim.Native.Nat.{ℕ, _<_}
 use mathlib.Core.Path.{_≡_}
 use mathlib.Core.List.{List}

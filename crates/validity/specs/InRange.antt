@@ -1,4 +1,4 @@
--- What is known of a row of the book that has passed its tests.
+-- 01, The book: what is known of a row of the book that has passed its tests.
 use Prim.Native.Nat.{_*_, _^_, _≤_}
 use mathlib.Core.Path.{_≡_}
 use Rattle.numbers.specs.Range.{In}

@@ -1,12 +1,13 @@
 -- 01, The book: when bytes are a valid book, in named parts, in the document's order.
 use Prim.Native.Nat.{ℕ, _+_, _*_, _^_, _≤_}
-use mathlib.Core.Bool.{Bool, _&&_}
+use mathlib.Core.Bool.{Bool, not, _&&_}
 use mathlib.Core.List.{List, [], _∷_}
 use lib.Dec.{leb, eqb}
 use lib.IntN.{ℤ, pos, natAbs}
 use lib.Signed.{leZ}
 use lib.ListN.{length}
 use Rattle.numbers.specs.Sum.{sumTo, totalTo}
+use Rattle.folds.specs.First.{_gives_, firstOf}
 use Rattle.folds.specs.Tests.{allTo, allOf, between}
 use Rattle.rules.specs.declared.units.Fen.{Fen}
 use Rattle.rules.specs.declared.units.Sides.{Sides}
@@ -164,3 +165,7 @@ validRows b = allOf (rowsOk b ∷ tradedOk b ∷ balanced b ∷ [])
 
 unfoldable pub validBook : List ℕ → Bool
 validBook xs = headOk xs && validRows (bookAt xs)
+
+-- Refusal numbers: 10, book not valid
+abbrev pub checkAnswer : List ℕ → ℕ
+checkAnswer book = firstOf ((not (validBook book) gives 10) ∷ [])

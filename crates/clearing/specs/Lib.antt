@@ -1,2 +1,0 @@
--- 01, Refusal numbers: the answers of the exported functions.
-pub mod Answers
