@@ -12,8 +12,9 @@ use Rattle.posting.specs.declared.records.Trade.{Trade}
 use Rattle.posting.specs.declared.records.Pairing.{Pairing}
 use Rattle.posting.specs.declared.records.Payment.{Payment}
 use Rattle.posting.specs.declared.records.Pledge.{Pledge}
+use Rattle.posting.specs.declared.records.Request.{Request}
 use Rattle.posting.specs.declared.records.Request.the-variants.{Trading, PairingUp, Depositing, Withdrawing, Pledging}
-use Rattle.posting.specs.Postings.{depositAnswer, withdrawalAnswer, pledgeAnswer}
+use Rattle.posting.specs.Postings.{tradeAnswer, pairingAnswer, depositAnswer, withdrawalAnswer, pledgeAnswer}
 use Rattle.posting.specs.declared.accounts.Entry.the-variants.{Buys, Sells, Receives, Delivers, PaysIn, TakesOut, Pledges}
 use Rattle.posting.specs.declared.accounts.Entry.{Entry}
 use Rattle.posting.specs.declared.accounts.Posted.{Posted}
@@ -21,15 +22,6 @@ use Rattle.posting.specs.Entries.{entryAnswer, entered, postedOf, lower}
 use Rattle.posting.specs.Answers.{accounts}
 use Rattle.posting.proofs.Outcomes.{trade-lower, pairing-lower, lower-zero}
 use Rattle.ledger.specs.Puts.{oneAnswer, oneAfter, twoAnswer, twoAfter, saysTo, stepTo}
-
-module _ (h : Head) (xs : List ℕ) (p : Place) (a : Account) where
-  one-put : (n : ℕ) → lens.puts accounts h xs (p ∷ []) (onZero n (a ∷ []) []) ≡ onZero n (putAccount h xs p a) xs
-  one-put zero = refl
-  one-put (suc n) = refl
-
-  two-put : (q : Place) (c : Account) (n : ℕ) → lens.puts accounts h xs (p ∷ q ∷ []) (onZero n (a ∷ c ∷ []) []) ≡ onZero n (putAccount h (putAccount h xs p a) q c) xs
-  two-put q c zero = refl
-  two-put q c (suc n) = refl
 
 -- ---- an account posted by itself
 
@@ -86,57 +78,51 @@ module _ (h : Head) (xs : List ℕ) (p : Place) (e : Entry) (r : Posted) (is : r
 -- ---- requests
 
 module _ (h : Head) (xs : List ℕ) where
-  abbrev at : ℕ → ℕ → Account
-  at m j = accountAt h xs (place m j)
+  one-put : (p : Place) (a : Account) (n : ℕ) → lens.puts accounts h xs (p ∷ []) (onZero n (a ∷ []) []) ≡ onZero n (putAccount h xs p a) xs
+  one-put p a zero = refl
+  one-put p a (suc n) = refl
 
-  pub trade-says : (t : Trade) → saysTo h xs (Trading t) ≡ twoAnswer h xs (place (t .buyer) (t .contract)) (Buys t) (place (t .seller) (t .contract)) (Sells t)
-  unfolding saysTo
-  trade-says t = trade-lower t (at (t .buyer) (t .contract)) (at (t .seller) (t .contract))
+  two-put : (p q : Place) (a b : Account) (n m : ℕ) → n ≡ m → lens.puts accounts h xs (p ∷ q ∷ []) (onZero n (a ∷ b ∷ []) []) ≡ onZero m (putAccount h (putAccount h xs p a) q b) xs
+  two-put p q a b n zero e = ap (λ (k : ℕ). lens.puts accounts h xs (p ∷ q ∷ []) (onZero k (a ∷ b ∷ []) [])) e
+  two-put p q a b n (suc m) e = ap (λ (k : ℕ). lens.puts accounts h xs (p ∷ q ∷ []) (onZero k (a ∷ b ∷ []) [])) e
 
-  pub trade-steps : (t : Trade) → stepTo h xs (Trading t) ≡ twoAfter h xs (place (t .buyer) (t .contract)) (Buys t) (place (t .seller) (t .contract)) (Sells t)
-  unfolding stepTo
-  trade-steps t =
+  -- a request of one account
+  abbrev pub OneIs : Request → ℕ → Entry → Type 0
+  OneIs q m e = (saysTo h xs q ≡ oneAnswer h xs (place m 0) e) × (stepTo h xs q ≡ oneAfter h xs (place m 0) e)
+
+  -- and of two
+  abbrev pub TwoIs : Request → ℕ → Entry → ℕ → Entry → ℕ → Type 0
+  TwoIs r m e m′ f j =
+      (saysTo h xs r ≡ twoAnswer h xs (place m j) e (place m′ j) f) × (stepTo h xs r ≡ twoAfter h xs (place m j) e (place m′ j) f)
+
+  pub deposit-is : (r : Payment) → OneIs (Depositing r) (r .member) (PaysIn r)
+  unfolding saysTo stepTo
+  deposit-is r = let p = place (r .member) 0 in let a = accountAt h xs p in (refl, one-put p (entered (PaysIn r) a) (depositAnswer r a))
+
+  pub withdrawal-is : (r : Payment) → OneIs (Withdrawing r) (r .member) (TakesOut r)
+  unfolding saysTo stepTo
+  withdrawal-is r = let p = place (r .member) 0 in let a = accountAt h xs p in (refl, one-put p (entered (TakesOut r) a) (withdrawalAnswer r a))
+
+  pub pledge-is : (r : Pledge) → OneIs (Pledging r) (r .member) (Pledges r)
+  unfolding saysTo stepTo
+  pledge-is r = let p = place (r .member) 0 in let a = accountAt h xs p in (refl, one-put p (entered (Pledges r) a) (pledgeAnswer r a))
+
+  pub trade-is : (t : Trade) → TwoIs (Trading t) (t .buyer) (Buys t) (t .seller) (Sells t) (t .contract)
+  unfolding saysTo stepTo
+  trade-is t =
       let p = place (t .buyer) (t .contract) in
       let q = place (t .seller) (t .contract) in
-      let a = entered (Buys t) (at (t .buyer) (t .contract)) in
-      let b = entered (Sells t) (at (t .seller) (t .contract)) in
-      ap (λ (n : ℕ). lens.puts accounts h xs (p ∷ q ∷ []) (onZero n (a ∷ b ∷ []) [])) (trade-lower t (at (t .buyer) (t .contract)) (at (t .seller) (t .contract)))
-      ∙ two-put h xs p a q b (twoAnswer h xs p (Buys t) q (Sells t))
+      let a = accountAt h xs p in
+      let b = accountAt h xs q in
+      let e = trade-lower t a b in
+      (e, two-put p q (entered (Buys t) a) (entered (Sells t) b) (tradeAnswer t a b) (twoAnswer h xs p (Buys t) q (Sells t)) e)
 
-  pub pairing-says : (r : Pairing) → saysTo h xs (PairingUp r) ≡ twoAnswer h xs (place (r .buyer) (r .contract)) (Receives r) (place (r .seller) (r .contract)) (Delivers r)
-  unfolding saysTo
-  pairing-says r = pairing-lower r (at (r .buyer) (r .contract)) (at (r .seller) (r .contract))
-
-  pub pairing-steps : (r : Pairing) → stepTo h xs (PairingUp r) ≡ twoAfter h xs (place (r .buyer) (r .contract)) (Receives r) (place (r .seller) (r .contract)) (Delivers r)
-  unfolding stepTo
-  pairing-steps r =
+  pub pairing-is : (r : Pairing) → TwoIs (PairingUp r) (r .buyer) (Receives r) (r .seller) (Delivers r) (r .contract)
+  unfolding saysTo stepTo
+  pairing-is r =
       let p = place (r .buyer) (r .contract) in
       let q = place (r .seller) (r .contract) in
-      let a = entered (Receives r) (at (r .buyer) (r .contract)) in
-      let b = entered (Delivers r) (at (r .seller) (r .contract)) in
-      ap (λ (n : ℕ). lens.puts accounts h xs (p ∷ q ∷ []) (onZero n (a ∷ b ∷ []) [])) (pairing-lower r (at (r .buyer) (r .contract)) (at (r .seller) (r .contract)))
-      ∙ two-put h xs p a q b (twoAnswer h xs p (Receives r) q (Delivers r))
-
-  pub deposit-says : (r : Payment) → saysTo h xs (Depositing r) ≡ oneAnswer h xs (place (r .member) 0) (PaysIn r)
-  unfolding saysTo
-  deposit-says r = refl
-
-  pub deposit-steps : (r : Payment) → stepTo h xs (Depositing r) ≡ oneAfter h xs (place (r .member) 0) (PaysIn r)
-  unfolding stepTo
-  deposit-steps r = one-put h xs (place (r .member) 0) (entered (PaysIn r) (at (r .member) 0)) (depositAnswer r (at (r .member) 0))
-
-  pub withdrawal-says : (r : Payment) → saysTo h xs (Withdrawing r) ≡ oneAnswer h xs (place (r .member) 0) (TakesOut r)
-  unfolding saysTo
-  withdrawal-says r = refl
-
-  pub withdrawal-steps : (r : Payment) → stepTo h xs (Withdrawing r) ≡ oneAfter h xs (place (r .member) 0) (TakesOut r)
-  unfolding stepTo
-  withdrawal-steps r = one-put h xs (place (r .member) 0) (entered (TakesOut r) (at (r .member) 0)) (withdrawalAnswer r (at (r .member) 0))
-
-  pub pledge-says : (r : Pledge) → saysTo h xs (Pledging r) ≡ oneAnswer h xs (place (r .member) 0) (Pledges r)
-  unfolding saysTo
-  pledge-says r = refl
-
-  pub pledge-steps : (r : Pledge) → stepTo h xs (Pledging r) ≡ oneAfter h xs (place (r .member) 0) (Pledges r)
-  unfolding stepTo
-  pledge-steps r = one-put h xs (place (r .member) 0) (entered (Pledges r) (at (r .member) 0)) (pledgeAnswer r (at (r .member) 0))
+      let a = accountAt h xs p in
+      let b = accountAt h xs q in
+      let e = pairing-lower r a b in
+      (e, two-put p q (entered (Receives r) a) (entered (Delivers r) b) (pairingAnswer r a b) (twoAnswer h xs p (Receives r) q (Delivers r)) e)

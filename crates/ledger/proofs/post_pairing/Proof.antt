@@ -1,7 +1,7 @@
 -- By the postings of two accounts.
 use mathlib.Core.Path.{_≡_, sym, _∙_}
 use borrow.Author.Needs.{needs}
-use Rattle.ledger.proofs.Outcomes.{pairing-says, pairing-steps}
+use Rattle.ledger.proofs.Outcomes.{pairing-is}
 use Rattle.ledger.proofs.post_pairing.Statement.{statement}
 use Rattle.ledger.proofs.post_pairing.Tie as tie
 
@@ -15,7 +15,8 @@ same-length c = search needs
 
 returns : tie.Need-returns
 returns c =
-    (c .before .before .post-two .ensures .0 ∙ sym (pairing-says (c .before .before .before .before .before .args .h) (c .before .before .before .before .before .args .s .now) (c .before .before .before .before .before .args .p)), c .before .before .post-two .ensures .1 ∙ sym (pairing-steps (c .before .before .before .before .before .args .h) (c .before .before .before .before .before .args .s .now) (c .before .before .before .before .before .args .p)))
+    let is = pairing-is (c .before .before .before .before .before .args .h) (c .before .before .before .before .before .args .s .now) (c .before .before .before .before .before .args .p) in
+    (c .before .before .post-two .ensures .0 ∙ sym (is .0), c .before .before .post-two .ensures .1 ∙ sym (is .1))
 
 pub post-pairing-spec : {M : Type 1} → statement M
 post-pairing-spec = tie.close (tie.spec post-two-requires same-length returns)

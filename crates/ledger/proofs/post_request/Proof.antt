@@ -3,7 +3,7 @@ use Prim.{tt}
 use mathlib.Core.Path.{_≡_, refl, sym, ap, subst, _∙_}
 use Rattle.posting.specs.declared.records.Request.{Request}
 use Rattle.ledger.specs.Puts.{saysTo, stepTo, RequestIn}
-use Rattle.ledger.proofs.Outcomes.{deposit-says, deposit-steps, withdrawal-says, withdrawal-steps, pledge-says, pledge-steps}
+use Rattle.ledger.proofs.Outcomes.{deposit-is, withdrawal-is, pledge-is}
 use borrow.Author.Needs.{needs}
 use Rattle.ledger.proofs.post_request.Statement.{statement}
 use Rattle.ledger.proofs.post_request.Tie as tie
@@ -60,21 +60,21 @@ same-length-3 c = search needs
 
 returns-3 : tie.Need-returns-3
 returns-3 c =
-    (c .before .before .post-alone .ensures .0 ∙ sym (deposit-says (c .before .before .before .before .before .before .before .before .args .h) (c .before .before .before .before .before .before .before .before .args .s .now) (c .before .before .before .before .before .q3 .given .0 .0)) ∙ sym (ap (saysTo (c .before .before .before .before .before .before .before .before .args .h) (c .before .before .before .before .before .before .before .before .args .s .now)) (c .before .before .before .before .before .q3 .given .1)), c .before .before .post-alone .ensures .1 ∙ sym (deposit-steps (c .before .before .before .before .before .before .before .before .args .h) (c .before .before .before .before .before .before .before .before .args .s .now) (c .before .before .before .before .before .q3 .given .0 .0)) ∙ sym (ap (stepTo (c .before .before .before .before .before .before .before .before .args .h) (c .before .before .before .before .before .before .before .before .args .s .now)) (c .before .before .before .before .before .q3 .given .1)))
+    (c .before .before .post-alone .ensures .0 ∙ sym (deposit-is (c .before .before .before .before .before .before .before .before .args .h) (c .before .before .before .before .before .before .before .before .args .s .now) (c .before .before .before .before .before .q3 .given .0 .0) .0) ∙ sym (ap (saysTo (c .before .before .before .before .before .before .before .before .args .h) (c .before .before .before .before .before .before .before .before .args .s .now)) (c .before .before .before .before .before .q3 .given .1)), c .before .before .post-alone .ensures .1 ∙ sym (deposit-is (c .before .before .before .before .before .before .before .before .args .h) (c .before .before .before .before .before .before .before .before .args .s .now) (c .before .before .before .before .before .q3 .given .0 .0) .1) ∙ sym (ap (stepTo (c .before .before .before .before .before .before .before .before .args .h) (c .before .before .before .before .before .before .before .before .args .s .now)) (c .before .before .before .before .before .q3 .given .1)))
 
 same-length-4 : tie.Need-same-length-4
 same-length-4 c = search needs
 
 returns-4 : tie.Need-returns-4
 returns-4 c =
-    (c .before .before .post-alone2 .ensures .0 ∙ sym (withdrawal-says (c .before .before .before .before .before .before .before .before .args .h) (c .before .before .before .before .before .before .before .before .args .s .now) (c .before .before .before .before .before .q4 .given .0 .0)) ∙ sym (ap (saysTo (c .before .before .before .before .before .before .before .before .args .h) (c .before .before .before .before .before .before .before .before .args .s .now)) (c .before .before .before .before .before .q4 .given .1)), c .before .before .post-alone2 .ensures .1 ∙ sym (withdrawal-steps (c .before .before .before .before .before .before .before .before .args .h) (c .before .before .before .before .before .before .before .before .args .s .now) (c .before .before .before .before .before .q4 .given .0 .0)) ∙ sym (ap (stepTo (c .before .before .before .before .before .before .before .before .args .h) (c .before .before .before .before .before .before .before .before .args .s .now)) (c .before .before .before .before .before .q4 .given .1)))
+    (c .before .before .post-alone2 .ensures .0 ∙ sym (withdrawal-is (c .before .before .before .before .before .before .before .before .args .h) (c .before .before .before .before .before .before .before .before .args .s .now) (c .before .before .before .before .before .q4 .given .0 .0) .0) ∙ sym (ap (saysTo (c .before .before .before .before .before .before .before .before .args .h) (c .before .before .before .before .before .before .before .before .args .s .now)) (c .before .before .before .before .before .q4 .given .1)), c .before .before .post-alone2 .ensures .1 ∙ sym (withdrawal-is (c .before .before .before .before .before .before .before .before .args .h) (c .before .before .before .before .before .before .before .before .args .s .now) (c .before .before .before .before .before .q4 .given .0 .0) .1) ∙ sym (ap (stepTo (c .before .before .before .before .before .before .before .before .args .h) (c .before .before .before .before .before .before .before .before .args .s .now)) (c .before .before .before .before .before .q4 .given .1)))
 
 same-length-5 : tie.Need-same-length-5
 same-length-5 c = search needs
 
 returns-5 : tie.Need-returns-5
 returns-5 c =
-    (c .before .before .post-alone3 .ensures .0 ∙ sym (pledge-says (c .before .before .before .before .before .before .before .before .args .h) (c .before .before .before .before .before .before .before .before .args .s .now) (c .before .before .before .before .before .q5 .given .0 .0)) ∙ sym (ap (saysTo (c .before .before .before .before .before .before .before .before .args .h) (c .before .before .before .before .before .before .before .before .args .s .now)) (c .before .before .before .before .before .q5 .given .1)), c .before .before .post-alone3 .ensures .1 ∙ sym (pledge-steps (c .before .before .before .before .before .before .before .before .args .h) (c .before .before .before .before .before .before .before .before .args .s .now) (c .before .before .before .before .before .q5 .given .0 .0)) ∙ sym (ap (stepTo (c .before .before .before .before .before .before .before .before .args .h) (c .before .before .before .before .before .before .before .before .args .s .now)) (c .before .before .before .before .before .q5 .given .1)))
+    (c .before .before .post-alone3 .ensures .0 ∙ sym (pledge-is (c .before .before .before .before .before .before .before .before .args .h) (c .before .before .before .before .before .before .before .before .args .s .now) (c .before .before .before .before .before .q5 .given .0 .0) .0) ∙ sym (ap (saysTo (c .before .before .before .before .before .before .before .before .args .h) (c .before .before .before .before .before .before .before .before .args .s .now)) (c .before .before .before .before .before .q5 .given .1)), c .before .before .post-alone3 .ensures .1 ∙ sym (pledge-is (c .before .before .before .before .before .before .before .before .args .h) (c .before .before .before .before .before .before .before .before .args .s .now) (c .before .before .before .before .before .q5 .given .0 .0) .1) ∙ sym (ap (stepTo (c .before .before .before .before .before .before .before .before .args .h) (c .before .before .before .before .before .before .before .before .args .s .now)) (c .before .before .before .before .before .q5 .given .1)))
 
 returns-6 : tie.Need-returns-6
 unfolding saysTo stepTo

@@ -1,7 +1,7 @@
 -- By the postings of two accounts.
 use mathlib.Core.Path.{_≡_, sym, _∙_}
 use borrow.Author.Needs.{needs}
-use Rattle.ledger.proofs.Outcomes.{trade-says, trade-steps}
+use Rattle.ledger.proofs.Outcomes.{trade-is}
 use Rattle.ledger.proofs.post_trade.Statement.{statement}
 use Rattle.ledger.proofs.post_trade.Tie as tie
 
@@ -15,7 +15,8 @@ same-length c = search needs
 
 returns : tie.Need-returns
 returns c =
-    (c .before .before .post-two .ensures .0 ∙ sym (trade-says (c .before .before .before .before .before .args .h) (c .before .before .before .before .before .args .s .now) (c .before .before .before .before .before .args .t)), c .before .before .post-two .ensures .1 ∙ sym (trade-steps (c .before .before .before .before .before .args .h) (c .before .before .before .before .before .args .s .now) (c .before .before .before .before .before .args .t)))
+    let is = trade-is (c .before .before .before .before .before .args .h) (c .before .before .before .before .before .args .s .now) (c .before .before .before .before .before .args .t) in
+    (c .before .before .post-two .ensures .0 ∙ sym (is .0), c .before .before .post-two .ensures .1 ∙ sym (is .1))
 
 pub post-trade-spec : {M : Type 1} → statement M
 post-trade-spec = tie.close (tie.spec post-two-requires same-length returns)
