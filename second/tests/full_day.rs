@@ -4,24 +4,22 @@ use std::collections::BTreeMap;
 
 use second::bounds;
 use second::generate::full_day;
-use second::layout::{count, record};
 use second::position::Side;
 use second::posting::post_to;
 use second::record::Record;
 use second::Book;
 
-const TOTAL: usize = 52_000;
 const TRADES: usize = 320_000;
 
 #[test]
 fn every_member_has_all_its_records_and_all_are_accepted_trades() {
-    let file = full_day::file(full_day::RECORDS);
-    assert_eq!(file[TOTAL..TOTAL + 4], (TRADES as u32).to_le_bytes());
-    let records = &file[TOTAL + count::SIZE..][..TRADES * record::SIZE];
-    let mut book = Book::decode(&file[..TOTAL]).expect("a valid book");
+    let day = full_day::day(full_day::RECORDS);
+    assert_eq!(day.file.len(), 52_000 + 4 + TRADES * 24 + 32 * 8);
+    assert_eq!(day.records.len(), TRADES);
+    let mut book = Book::decode(&day.book).expect("a valid book");
     assert!(book.accounts.iter().all(|account| account.accepted == 0));
     let mut marks: BTreeMap<u8, usize> = BTreeMap::new();
-    for (place, bytes) in records.chunks(record::SIZE).enumerate() {
+    for (place, bytes) in day.records.iter().enumerate() {
         match post_to(&mut book, bytes) {
             Ok(Record::Trade(trade)) => {
                 for party in trade.parties() {
@@ -48,7 +46,7 @@ fn every_member_has_all_its_records_and_all_are_accepted_trades() {
 #[test]
 fn it_is_settled_and_nothing_is_refused() {
     for records in [0, 1, 50] {
-        let text = String::from_utf8(second::evening(&full_day::file(records))).expect("text");
+        let text = String::from_utf8(second::evening(&full_day::day(records).file)).expect("text");
         assert!(text.starts_with("member "), "{text}");
         assert_eq!(text.lines().count(), 33);
     }

@@ -18,20 +18,6 @@ pub struct Case {
     pub bytes: Vec<u8>,
 }
 
-/// Damage that a book alone can take; the others are of a day's records.
-const DAMAGE: [Damage; 10] = [
-    Damage::BitFlips,
-    Damage::Cut,
-    Damage::ExtraBytes,
-    Damage::WrongHead,
-    Damage::WrongTotal,
-    Damage::WrongContents,
-    Damage::Unbalanced,
-    Damage::Misstated,
-    Damage::BeyondBound,
-    Damage::Noise,
-];
-
 /// A valid book of a seed.
 pub fn valid(random: &mut Random) -> Book {
     let shape = shape(random);
@@ -326,7 +312,7 @@ fn sums_at_a_bound(random: &mut Random, book: &Book) -> Case {
 }
 
 fn damaged(random: &mut Random, book: &Book, bytes: &[u8]) -> Case {
-    let damage = *random.pick(&DAMAGE);
+    let damage = *random.pick(&Damage::to_a_book());
     let mut bytes = bytes.to_vec();
     damage.apply(random, &mut bytes, book.shape());
     Case {

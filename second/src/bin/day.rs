@@ -25,10 +25,10 @@ fn main() -> ExitCode {
 fn file(words: &[&str]) -> Option<Vec<u8>> {
     match words {
         ["case-e"] => Some(case_e::file()),
-        ["full"] => Some(full_day::file(full_day::RECORDS)),
+        ["full"] => Some(full_day::day(full_day::RECORDS).file),
         ["full", records] => {
             let records = records.parse().ok()?;
-            (records <= full_day::RECORDS).then(|| full_day::file(records))
+            (records <= full_day::RECORDS).then(|| full_day::day(records).file)
         }
         [seed] => seed.parse().ok().map(|seed| day(seed).file),
         _ => None,

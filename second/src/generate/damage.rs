@@ -41,7 +41,14 @@ impl Damage {
         Damage::Noise,
     ];
 
-    /// Damages a day file whose book has this shape.
+    /// The damage that a book alone can take, and not only a day file.
+    pub fn to_a_book() -> Vec<Damage> {
+        let of_the_book = |damage: &Damage| *damage != Damage::WrongCount;
+        Damage::ALL.into_iter().filter(of_the_book).collect()
+    }
+
+    /// Damages a day file whose book has this shape; or the book alone, where
+    /// the damage can be done to one.
     pub fn apply(self, random: &mut Random, file: &mut Vec<u8>, shape: Shape) {
         match self {
             Damage::BitFlips => flip_bits(random, file),

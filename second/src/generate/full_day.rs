@@ -4,7 +4,7 @@
 use super::books::{book, near_last, Hour, Temper};
 use super::random::Random;
 use super::records::marks_for;
-use super::{day_file, price_bytes};
+use super::{day_file, price_bytes, Day};
 use crate::book::{Book, Contract};
 use crate::bounds;
 use crate::layout::Shape;
@@ -24,8 +24,8 @@ const SEED: u64 = 0x66_75_6c_6c;
 const MOST_LOTS: i64 = 5;
 const MOST_OPENING: i64 = 4_000;
 
-/// The day file with so many records of each member.
-pub fn file(records: usize) -> Vec<u8> {
+/// The day with so many records of each member.
+pub fn day(records: usize) -> Day {
     let mut random = Random::new(SEED);
     let opening = opening(&mut random);
     let mut closing = opening.clone();
@@ -42,7 +42,15 @@ pub fn file(records: usize) -> Vec<u8> {
     let prices = prices_at(&closing, |contract| {
         Price(random.count(near_last(contract)))
     });
-    day_file(&opening.encode(), &trades, &prices)
+    let book = opening.encode();
+    Day {
+        seed: SEED,
+        file: day_file(&book, &trades, &prices),
+        book,
+        records: trades,
+        prices,
+        damage: None,
+    }
 }
 
 /// A full opening book whose margins are those of its lots: another one,
