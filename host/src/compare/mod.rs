@@ -102,6 +102,16 @@ pub fn archive() -> Box<dyn Library> {
     return Box::new(Linked);
 }
 
+/// Makes a comparison of each of the libraries, and panics at a difference.
+pub fn all_same(compare: impl Fn(&mut dyn Library) -> Tally) -> Vec<(&'static str, Tally)> {
+    let compared = |(of, mut library): (&'static str, Box<dyn Library>)| {
+        let tally = compare(&mut *library);
+        tally.assert_same(of);
+        (of, tally)
+    };
+    libraries().into_iter().map(compared).collect()
+}
+
 /// All there is to compare, by name: what this package links, and the archive
 /// where that is another.
 pub fn libraries() -> Vec<(&'static str, Box<dyn Library>)> {

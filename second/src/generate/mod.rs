@@ -5,6 +5,7 @@ pub mod calls;
 pub mod case_e;
 pub mod damage;
 pub mod edges;
+pub mod fields;
 pub mod full_day;
 mod misstate;
 pub mod random;
