@@ -3,12 +3,12 @@
 use std::fs::{self, File};
 use std::path::{Path, PathBuf};
 use std::process::{self, Command, Stdio};
-use std::time::Instant;
 use std::{env, io};
 
 use second::generate::full_day;
 
 use crate::counts::{self, instructions, Run};
+use crate::processor;
 use crate::ratio;
 
 /// Runs of each side, of which the best counts.
@@ -81,12 +81,12 @@ impl Drop for DayFile {
     }
 }
 
-/// Seconds of a program from its start to its end, and what it printed.
+/// Seconds of processor time of a program's run, and what it printed.
 fn time(program: &str, day: &DayFile) -> io::Result<(f64, Vec<u8>)> {
     let input = day.open()?;
-    let start = Instant::now();
+    let before = processor::of_children();
     let ran = Command::new(Path::new(program)).stdin(input).output()?;
-    let seconds = start.elapsed().as_secs_f64();
+    let seconds = processor::of_children() - before;
     if !ran.status.success() {
         return Err(io::Error::other(format!("{program}: {}", ran.status)));
     }

@@ -8,6 +8,7 @@
 
 mod counts;
 mod evening;
+mod processor;
 
 use std::env;
 use std::hint::black_box;
