@@ -7,7 +7,7 @@
 use std::io::{self, Read, Write};
 use std::process::{Child, ChildStdin, ChildStdout, Command, Stdio};
 
-use crate::compare::{Answer, Library, WITHOUT_POST, WITHOUT_SETTLE};
+use crate::compare::{Answer, Evening, Library, WITHOUT_POST, WITHOUT_SETTLE};
 
 const SLICES: usize = 4;
 
@@ -139,21 +139,16 @@ impl Library for Emulated {
         Ok(outcome.answer)
     }
 
-    fn settle(
-        &mut self,
-        book: &[u8],
-        prices: &[u8],
-        next: &mut [u8],
-        results: &mut [u8],
-    ) -> Answer {
+    fn settle(&mut self, lent: Evening) -> Answer {
         if !cfg!(feature = "settle") {
             return Err(WITHOUT_SETTLE.into());
         }
-        let outcome = self.call(Function::Settle, [book, prices, next, results])?;
-        unchanged(book, &outcome.slices[0], "book")?;
-        unchanged(prices, &outcome.slices[1], "list of prices")?;
-        next.copy_from_slice(&outcome.slices[2]);
-        results.copy_from_slice(&outcome.slices[3]);
+        let slices = [lent.book, lent.prices, &*lent.next, &*lent.results];
+        let outcome = self.call(Function::Settle, slices)?;
+        unchanged(lent.book, &outcome.slices[0], "book")?;
+        unchanged(lent.prices, &outcome.slices[1], "list of prices")?;
+        lent.next.copy_from_slice(&outcome.slices[2]);
+        lent.results.copy_from_slice(&outcome.slices[3]);
         Ok(outcome.answer)
     }
 }

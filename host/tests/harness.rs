@@ -1,7 +1,9 @@
 //! The comparisons themselves: they report nothing of a library that is right,
 //! and find each of some that are wrong.
 
-use host::compare::{checking, posting, settling, Answer, Library, Second, Tally, DESCRIBED};
+use host::compare::{
+    checking, posting, settling, Answer, Evening, Library, Second, Tally, DESCRIBED,
+};
 use second::layout::Shape;
 
 const CHECKED: std::ops::RangeInclusive<u64> = 0..=399;
@@ -68,14 +70,8 @@ impl Library for Wrong {
         (self.post)(book, record)
     }
 
-    fn settle(
-        &mut self,
-        book: &[u8],
-        prices: &[u8],
-        next: &mut [u8],
-        results: &mut [u8],
-    ) -> Answer {
-        (self.settle)(book, prices, next, results)
+    fn settle(&mut self, lent: Evening) -> Answer {
+        (self.settle)(lent.book, lent.prices, lent.next, lent.results)
     }
 }
 

@@ -11,7 +11,7 @@ fn long(words: &str) -> Output {
 
 #[test]
 fn a_summary_is_printed() {
-    for words in ["check 5 9", "fields 1 2"] {
+    for words in ["check 5 9", "fields 1 2", "archive check 5 9"] {
         let ran = long(words);
         let text = String::from_utf8(ran.stdout).expect("text");
         assert_eq!(ran.status.code(), Some(0), "{text}");
@@ -32,6 +32,9 @@ fn what_cannot_be_compared_is_not_taken_for_the_same() {
         "fields 0 1",
         "fields 1 33",
         "other 1 2",
+        "full 0",
+        "full 20001",
+        "archive",
     ] {
         assert_eq!(long(words).status.code(), Some(2), "{words}");
     }

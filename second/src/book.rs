@@ -172,7 +172,9 @@ fn front(shape: Shape) -> [u8; FRONT] {
     bytes
 }
 
-fn write_front(shape: Shape, bytes: &mut [u8]) {
+/// Writes the head and the table of contents of a book of any shape to the front
+/// of bytes that have room for them.
+pub fn write_front(shape: Shape, bytes: &mut [u8]) {
     put_u16(bytes, head::MEMBERS, shape.members);
     put_u16(bytes, head::CONTRACTS, shape.contracts);
     put_u32(bytes, head::TOTAL, shape.total() as i64);

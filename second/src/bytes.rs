@@ -22,26 +22,30 @@ pub fn i64_at(bytes: &[u8], at: usize) -> i64 {
     i64::from_le_bytes(array_at(bytes, at))
 }
 
+fn put<const N: usize>(bytes: &mut [u8], at: usize, array: [u8; N]) {
+    bytes[at..at + N].copy_from_slice(&array);
+}
+
 /// Stores a number that its caller knows to fit two bytes.
 pub fn put_u16(bytes: &mut [u8], at: usize, value: usize) {
     let value = u16::try_from(value).expect("a number that fits two bytes");
-    bytes[at..at + 2].copy_from_slice(&value.to_le_bytes());
+    put(bytes, at, value.to_le_bytes());
 }
 
 /// Stores a number that its caller knows to fit four bytes, unsigned.
 pub fn put_u32(bytes: &mut [u8], at: usize, value: i64) {
     let value = u32::try_from(value).expect("a number that fits four bytes");
-    bytes[at..at + 4].copy_from_slice(&value.to_le_bytes());
+    put(bytes, at, value.to_le_bytes());
 }
 
 /// Stores a number that its caller knows to fit eight bytes, signed.
 pub fn put_i64(bytes: &mut [u8], at: usize, value: i128) {
     let value = i64::try_from(value).expect("a number that fits eight bytes");
-    bytes[at..at + 8].copy_from_slice(&value.to_le_bytes());
+    put(bytes, at, value.to_le_bytes());
 }
 
 /// Stores a number that its caller knows to fit eight bytes, unsigned.
 pub fn put_u64(bytes: &mut [u8], at: usize, value: i128) {
     let value = u64::try_from(value).expect("a number that fits eight bytes");
-    bytes[at..at + 8].copy_from_slice(&value.to_le_bytes());
+    put(bytes, at, value.to_le_bytes());
 }

@@ -1,12 +1,12 @@
 //! Books to check: valid ones, and the same with something done to them.
 
-use std::ops::RangeInclusive;
-
+use second::book::write_front;
 use second::bounds;
 use second::generate::books::{book, shape, Hour, Temper};
 use second::generate::damage::{noise, Damage};
+use second::generate::fields::{fields, Field};
 use second::generate::random::Random;
-use second::layout::{account, contents, contract, head, position, Shape};
+use second::layout::Shape;
 use second::position::{Position, Side, SideLots};
 use second::units::{Cash, Fen, Lots};
 use second::validity::{most_cash, most_moved, most_traded};
@@ -17,20 +17,6 @@ pub struct Case {
     pub name: String,
     pub bytes: Vec<u8>,
 }
-
-/// Damage that a book alone can take; the others are of a day's records.
-const DAMAGE: [Damage; 10] = [
-    Damage::BitFlips,
-    Damage::Cut,
-    Damage::ExtraBytes,
-    Damage::WrongHead,
-    Damage::WrongTotal,
-    Damage::WrongContents,
-    Damage::Unbalanced,
-    Damage::Misstated,
-    Damage::BeyondBound,
-    Damage::Noise,
-];
 
 /// A valid book of a seed.
 pub fn valid(random: &mut Random) -> Book {
@@ -53,7 +39,7 @@ pub fn cases(seed: u64) -> Vec<Case> {
     for _ in 0..4 {
         let field = random.pick(&fields).clone();
         let value = *random.pick(&field.values());
-        cases.push(field.case(&bytes, value));
+        cases.push(field_case(&field, &bytes, value));
     }
     for _ in 0..2 {
         cases.push(lots_at_a_bound(&mut random, &book));
@@ -72,161 +58,18 @@ pub fn every_field(book: &Book, mut each: impl FnMut(Case)) {
     let bytes = book.encode();
     for field in fields(book) {
         for value in field.values() {
-            each(field.case(&bytes, value));
+            each(field_case(&field, &bytes, value));
         }
     }
 }
 
-/// A number in a book, and the bounds it has where all others stay.
-#[derive(Clone)]
-struct Field {
-    name: &'static str,
-    at: usize,
-    width: usize,
-    range: RangeInclusive<i128>,
-}
-
-impl Field {
-    fn values(&self) -> [i128; 6] {
-        let (low, high) = (*self.range.start(), *self.range.end());
-        [low - 1, low, low + 1, high - 1, high, high + 1]
+fn field_case(field: &Field, bytes: &[u8], value: i128) -> Case {
+    let mut bytes = bytes.to_vec();
+    field.store(&mut bytes, value);
+    Case {
+        name: format!("{} {value} at byte {}", field.name, field.at),
+        bytes,
     }
-
-    /// Stores the value's low bytes.
-    fn case(&self, bytes: &[u8], value: i128) -> Case {
-        let mut bytes = bytes.to_vec();
-        let value_bytes = value.to_le_bytes();
-        bytes[self.at..self.at + self.width].copy_from_slice(&value_bytes[..self.width]);
-        Case {
-            name: format!("{} {value} at byte {}", self.name, self.at),
-            bytes,
-        }
-    }
-}
-
-/// All fields of a book.
-fn fields(book: &Book) -> Vec<Field> {
-    let shape = book.shape();
-    let mut fields = Fields(Vec::new());
-    fields.front(shape);
-    for index in 0..shape.contracts {
-        fields.contract(shape.contract(index).start);
-    }
-    for member in 0..shape.members {
-        fields.account(shape.account(member).start, book, member);
-        for contract in 0..shape.contracts {
-            fields.position(
-                shape.position(member, contract).start,
-                book,
-                member,
-                contract,
-            );
-        }
-    }
-    fields.0
-}
-
-struct Fields(Vec<Field>);
-
-impl Fields {
-    fn add(&mut self, name: &'static str, at: usize, width: usize, range: RangeInclusive<i128>) {
-        self.0.push(Field {
-            name,
-            at,
-            width,
-            range,
-        });
-    }
-
-    fn exact(&mut self, name: &'static str, at: usize, width: usize, value: usize) {
-        self.add(name, at, width, value as i128..=value as i128);
-    }
-
-    fn front(&mut self, shape: Shape) {
-        self.add("members", head::MEMBERS, 2, 1..=32);
-        self.add("contracts", head::CONTRACTS, 2, 1..=32);
-        self.exact("total", head::TOTAL, 4, shape.total());
-        self.add("total", head::TOTAL, 4, 32..=52_000);
-        for (entry, section) in shape.sections().iter().enumerate() {
-            let at = head::SIZE + entry * contents::SIZE;
-            self.exact("section number", at + contents::NUMBER, 2, entry + 1);
-            self.exact("row size", at + contents::ROW_SIZE, 2, section.row_size);
-            self.exact("offset", at + contents::OFFSET, 4, section.offset);
-        }
-    }
-
-    fn contract(&mut self, row: usize) {
-        let price = wide(bounds::PRICE);
-        self.add("last price", row + contract::LAST_PRICE, 4, price);
-        let multiplier = wide(bounds::MULTIPLIER);
-        self.add("multiplier", row + contract::MULTIPLIER, 4, multiplier);
-        let rate = wide(bounds::MARGIN_RATE);
-        self.add("margin rate", row + contract::MARGIN_RATE, 4, rate);
-        self.add("trade fee", row + contract::TRADE_FEE, 4, bounds::FEE);
-        self.add("delivery fee", row + contract::DELIVERY_FEE, 4, bounds::FEE);
-        self.exact("contract's zero", row + contract::ZERO, 4, 0);
-    }
-
-    fn account(&mut self, row: usize, book: &Book, member: usize) {
-        let moved = 0..=most_moved(book.accounts[member].accepted).0;
-        self.add("kind", row + account::KIND, 4, 1..=2);
-        self.add(
-            "accepted",
-            row + account::ACCEPTED,
-            4,
-            wide(bounds::ACCEPTED),
-        );
-        self.add("reserve", row + account::RESERVE, 8, bounds::RESERVE);
-        self.add("margin", row + account::MARGIN, 8, bounds::MARGIN);
-        self.add("usable", row + account::USABLE, 8, bounds::USABLE);
-        self.add(
-            "market value",
-            row + account::MARKET_VALUE,
-            8,
-            bounds::MARKET_VALUE,
-        );
-        self.add(
-            "discount",
-            row + account::DISCOUNT,
-            8,
-            wide(bounds::DISCOUNT),
-        );
-        self.add("deposits", row + account::DEPOSITS, 8, moved.clone());
-        self.add("withdrawals", row + account::WITHDRAWALS, 8, moved);
-    }
-
-    fn position(&mut self, row: usize, book: &Book, member: usize, contract: usize) {
-        let position = book.position(member, contract);
-        for side in Side::BOTH {
-            self.side(row, side, &position[side]);
-        }
-        let cash = most_cash(position.traded).0;
-        self.add("cash sum", row + position::CASH, 8, -cash..=cash);
-        let traded: i64 = book
-            .positions_of(member)
-            .iter()
-            .map(|row| row.traded.0)
-            .sum();
-        let left = most_traded(book.accounts[member].accepted).0 - traded + position.traded.0;
-        self.add("traded", row + position::TRADED, 4, 0..=i128::from(left));
-        self.exact("position's zero", row + position::ZERO, 4, 0);
-    }
-
-    fn side(&mut self, row: usize, side: Side, lots: &SideLots) {
-        let at = |field: [usize; 2]| row + field[side as usize];
-        let held = i128::from(lots.held().0);
-        let old = i128::from(lots.old().0);
-        let most = i128::from(*bounds::HELD.end());
-        self.add("opening", at(position::OPENING), 4, 0..=most);
-        let opening = i128::from(lots.opening.0);
-        self.add("closed old", at(position::CLOSED_OLD), 4, 0..=opening);
-        self.add("new", at(position::NEW), 4, 0..=most - old);
-        self.add("paired", at(position::PAIRED), 4, 0..=held);
-    }
-}
-
-fn wide(range: RangeInclusive<i64>) -> RangeInclusive<i128> {
-    i128::from(*range.start())..=i128::from(*range.end())
 }
 
 /// A count one below, at or one above a bound, and not below 0.
@@ -326,7 +169,7 @@ fn sums_at_a_bound(random: &mut Random, book: &Book) -> Case {
 }
 
 fn damaged(random: &mut Random, book: &Book, bytes: &[u8]) -> Case {
-    let damage = *random.pick(&DAMAGE);
+    let damage = *random.pick(&Damage::to_a_book());
     let mut bytes = bytes.to_vec();
     damage.apply(random, &mut bytes, book.shape());
     Case {
@@ -364,17 +207,6 @@ fn any_bytes(random: &mut Random) -> Case {
 /// The front of a book of any shape, and one byte all through the rows.
 fn front(shape: Shape, fill: u8) -> Vec<u8> {
     let mut bytes = vec![fill; shape.total()];
-    let mut put = |at: usize, width: usize, value: usize| {
-        bytes[at..at + width].copy_from_slice(&value.to_le_bytes()[..width]);
-    };
-    put(head::MEMBERS, 2, shape.members);
-    put(head::CONTRACTS, 2, shape.contracts);
-    put(head::TOTAL, 4, shape.total());
-    for (entry, section) in shape.sections().iter().enumerate() {
-        let at = head::SIZE + entry * contents::SIZE;
-        put(at + contents::NUMBER, 2, usize::from(section.number));
-        put(at + contents::ROW_SIZE, 2, section.row_size);
-        put(at + contents::OFFSET, 4, section.offset);
-    }
+    write_front(shape, &mut bytes);
     bytes
 }

@@ -25,8 +25,22 @@ pub trait Library {
 
     fn post(&mut self, book: &mut [u8], record: &[u8]) -> Answer;
 
-    fn settle(&mut self, book: &[u8], prices: &[u8], next: &mut [u8], results: &mut [u8])
-        -> Answer;
+    fn settle(&mut self, lent: Evening) -> Answer;
+}
+
+/// What is lent to a settlement.
+pub struct Evening<'a> {
+    pub book: &'a [u8],
+    pub prices: &'a [u8],
+    pub next: &'a mut [u8],
+    pub results: &'a mut [u8],
+}
+
+impl Evening<'_> {
+    /// Has it settled by a function that always answers.
+    fn by(self, settle: fn(&[u8], &[u8], &mut [u8], &mut [u8]) -> u8) -> Answer {
+        Ok(settle(self.book, self.prices, self.next, self.results))
+    }
 }
 
 /// Why a function has no answer in a build that leaves it out.
@@ -52,18 +66,12 @@ impl Library for Linked {
     }
 
     #[cfg(feature = "settle")]
-    fn settle(
-        &mut self,
-        book: &[u8],
-        prices: &[u8],
-        next: &mut [u8],
-        results: &mut [u8],
-    ) -> Answer {
-        Ok(crate::settle(book, prices, next, results))
+    fn settle(&mut self, lent: Evening) -> Answer {
+        lent.by(crate::settle)
     }
 
     #[cfg(not(feature = "settle"))]
-    fn settle(&mut self, _: &[u8], _: &[u8], _: &mut [u8], _: &mut [u8]) -> Answer {
+    fn settle(&mut self, _: Evening) -> Answer {
         Err(WITHOUT_SETTLE.into())
     }
 }
@@ -80,14 +88,8 @@ impl Library for Second {
         Ok(second::post(book, record))
     }
 
-    fn settle(
-        &mut self,
-        book: &[u8],
-        prices: &[u8],
-        next: &mut [u8],
-        results: &mut [u8],
-    ) -> Answer {
-        Ok(second::settle(book, prices, next, results))
+    fn settle(&mut self, lent: Evening) -> Answer {
+        lent.by(second::settle)
     }
 }
 
@@ -98,6 +100,16 @@ pub fn archive() -> Box<dyn Library> {
     return Box::new(crate::emulated::Emulated::start());
     #[cfg(not(emulated))]
     return Box::new(Linked);
+}
+
+/// Makes a comparison of each of the libraries, and panics at a difference.
+pub fn all_same(compare: impl Fn(&mut dyn Library) -> Tally) -> Vec<(&'static str, Tally)> {
+    let compared = |(of, mut library): (&'static str, Box<dyn Library>)| {
+        let tally = compare(&mut *library);
+        tally.assert_same(of);
+        (of, tally)
+    };
+    libraries().into_iter().map(compared).collect()
 }
 
 /// All there is to compare, by name: what this package links, and the archive

@@ -4,13 +4,17 @@ use std::ops::RangeInclusive;
 
 use second::generate::edges::edge_books;
 use second::generate::random::Random;
-use second::generate::{day, Day};
+use second::generate::{day, full_day, Day};
 use second::layout::record;
 use second::record::{Mark, Pairing, Record, Trade};
 use second::units::{Fen, Lots, Price, Rate};
 
 use super::books::cases;
 use super::{Lent, Library, Tally};
+
+/// The sorts of postings that are told apart.
+pub const IN_SEQUENCE: &str = "records posted in sequence";
+pub const ALONE: &str = "records posted to a book of their own";
 
 /// The days of all seeds from the first to the last. A day's records are posted
 /// one after the other to the same book; some of them also cut or lengthened.
@@ -26,9 +30,18 @@ pub fn seeds(library: &mut dyn Library, seeds: RangeInclusive<u64>) -> Tally {
     tally
 }
 
+/// The fullest day with so many records of each member, posted in the same way.
+pub fn full_day(library: &mut dyn Library, records: usize) -> Tally {
+    let mut tally = Tally::default();
+    let day = full_day::day(records);
+    let mut random = Random::new(day.seed);
+    in_sequence(library, &mut tally, &mut random, &day);
+    tally
+}
+
 fn in_sequence(library: &mut dyn Library, tally: &mut Tally, random: &mut Random, day: &Day) {
     let seed = day.seed;
-    let mut books = Books::new(&day.book, seed);
+    let mut books = Books::new(&day.book, seed, IN_SEQUENCE);
     for (place, record) in day.records.iter().enumerate() {
         if random.chance(8) {
             let other = of_other_length(random, record);
@@ -68,7 +81,7 @@ fn single(library: &mut dyn Library, tally: &mut Tally, random: &mut Random, day
         } else {
             record
         };
-        let mut books = Books::new(&case.bytes, tally.calls);
+        let mut books = Books::new(&case.bytes, tally.calls, ALONE);
         let name = || format!("post, seed {seed}, a record to the book: {}", case.name);
         books.post(library, tally, name, &record);
     }
@@ -79,7 +92,7 @@ pub fn edges(library: &mut dyn Library) -> Tally {
     let mut tally = Tally::default();
     for case in edge_books() {
         for (index, record) in plain_records().iter().enumerate() {
-            let mut books = Books::new(&case.bytes, tally.calls);
+            let mut books = Books::new(&case.bytes, tally.calls, ALONE);
             let name = || format!("post, plain record {index} to the book: {}", case.name);
             books.post(library, &mut tally, name, record);
         }
@@ -125,15 +138,17 @@ fn plain_records() -> Vec<Vec<u8>> {
     records
 }
 
-/// The same book on both sides.
+/// The same book on both sides, and what sort of posting it is for.
 struct Books {
+    sort: &'static str,
     library: Lent,
     second: Vec<u8>,
 }
 
 impl Books {
-    fn new(book: &[u8], place: u64) -> Books {
+    fn new(book: &[u8], place: u64, sort: &'static str) -> Books {
         Books {
+            sort,
             library: Lent::new(book, place),
             second: book.to_vec(),
         }
@@ -157,5 +172,6 @@ impl Books {
         }
         let bytes = self.second.len() + record.len();
         tally.call(name, answer, expected, same, bytes);
+        tally.sort(self.sort);
     }
 }

@@ -1,5 +1,6 @@
 //! The evening settlement, compared.
 
+use std::cmp::Ordering;
 use std::ops::RangeInclusive;
 
 use second::generate::calls::{call, Call};
@@ -7,7 +8,7 @@ use second::generate::edges::edge_books;
 use second::generate::random::Random;
 use second::layout::{head, pair, results, Shape};
 
-use super::{Lent, Library, Tally};
+use super::{Evening, Lent, Library, Tally};
 
 /// The calls of all seeds from the first to the last: each as it is made, then
 /// with other lengths of the lent room and with other prices.
@@ -128,18 +129,35 @@ fn settle(
     let mut lent_next = Lent::new(&next, tally.calls / 3);
     let mut lent_results = Lent::new(&results, tally.calls / 5);
     let expected = second::settle(&call.book, &call.prices, &mut next, &mut results);
-    let answer = library.settle(
-        book.bytes(),
-        prices.bytes(),
-        lent_next.bytes_mut(),
-        lent_results.bytes_mut(),
-    );
+    let answer = library.settle(Evening {
+        book: book.bytes(),
+        prices: prices.bytes(),
+        next: lent_next.bytes_mut(),
+        results: lent_results.bytes_mut(),
+    });
     let same = book.is(&call.book)
         && prices.is(&call.prices)
         && lent_next.is(&next)
         && lent_results.is(&results);
     let bytes = call.book.len() + call.prices.len() + next.len() + results.len();
     tally.call(name, answer, expected, same, bytes);
+    tally.sort(room(call));
+}
+
+/// How the lent room compares with what a book of this head needs.
+fn room(call: &Call) -> &'static str {
+    let shape = shape_of(&call.book);
+    let lent = [
+        call.next.cmp(&shape.total()),
+        call.results.cmp(&shape.results()),
+    ];
+    if lent.contains(&Ordering::Less) {
+        "settlements in short room"
+    } else if lent.contains(&Ordering::Greater) {
+        "settlements in long room"
+    } else {
+        "settlements in exact room"
+    }
 }
 
 /// Room that has something in it, so that it shows where nothing was written.

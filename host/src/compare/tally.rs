@@ -17,6 +17,8 @@ pub struct Tally {
     /// program.
     pub library: BTreeMap<u8, u64>,
     pub second: BTreeMap<u8, u64>,
+    /// How many calls were of each sort, where there are several.
+    pub sorts: BTreeMap<&'static str, u64>,
     pub differences: u64,
     /// The first differences, each with the name of its call.
     pub described: Vec<String>,
@@ -53,20 +55,19 @@ impl Tally {
         }
     }
 
+    /// Counts a call under its sort.
+    pub fn sort(&mut self, sort: &'static str) {
+        *self.sorts.entry(sort).or_default() += 1;
+    }
+
     /// Takes in another comparison.
     pub fn add(&mut self, other: Tally) {
         self.calls += other.calls;
         self.bytes += other.bytes;
         self.differences += other.differences;
-        let tables = [
-            (&mut self.library, other.library),
-            (&mut self.second, other.second),
-        ];
-        for (table, counts) in tables {
-            for (number, count) in counts {
-                *table.entry(number).or_default() += count;
-            }
-        }
+        add_counts(&mut self.library, other.library);
+        add_counts(&mut self.second, other.second);
+        add_counts(&mut self.sorts, other.sorts);
         self.described.extend(other.described);
         self.described.truncate(DESCRIBED);
     }
@@ -86,12 +87,21 @@ impl Tally {
     }
 }
 
+fn add_counts<Key: Ord>(table: &mut BTreeMap<Key, u64>, counts: BTreeMap<Key, u64>) {
+    for (key, count) in counts {
+        *table.entry(key).or_default() += count;
+    }
+}
+
 impl fmt::Display for Tally {
     fn fmt(&self, to: &mut fmt::Formatter) -> fmt::Result {
         for difference in &self.described {
             writeln!(to, "differs: {difference}")?;
         }
         writeln!(to, "calls {}", self.calls)?;
+        for (sort, count) in &self.sorts {
+            writeln!(to, "{sort} {count}")?;
+        }
         writeln!(to, "bytes compared {}", self.bytes)?;
         let numbers: Vec<u8> = self
             .library

@@ -63,6 +63,13 @@ pub fn book(random: &mut Random, shape: Shape, temper: Temper, hour: Hour) -> Bo
     book
 }
 
+/// Prices at most a twentieth away from a contract's last.
+pub fn near_last(contract: &Contract) -> RangeInclusive<i64> {
+    let last = contract.last_price.0;
+    let step = last / 20;
+    (last - step).max(*bounds::PRICE.start())..=(last + step).min(*bounds::PRICE.end())
+}
+
 fn contract(random: &mut Random, temper: Temper) -> Contract {
     if temper == Temper::Extreme {
         return Contract {

@@ -1,12 +1,11 @@
 //! Damage done to a day file that was sound.
 
-use std::ops::Range;
-
+use super::fields::fields;
 use super::misstate::{misstate, unbalance};
 use super::random::Random;
 use crate::book::Book;
 use crate::bytes::u32_at;
-use crate::layout::{account, contents, contract, head, position, record, Shape, FRONT};
+use crate::layout::{contents, head, record, Shape, FRONT};
 
 /// One way to damage a day file.
 #[derive(Clone, Copy, PartialEq, Eq, Debug)]
@@ -41,7 +40,14 @@ impl Damage {
         Damage::Noise,
     ];
 
-    /// Damages a day file whose book has this shape.
+    /// The damage that a book alone can take, and not only a day file.
+    pub fn to_a_book() -> Vec<Damage> {
+        let of_the_book = |damage: &Damage| *damage != Damage::WrongCount;
+        Damage::ALL.into_iter().filter(of_the_book).collect()
+    }
+
+    /// Damages a day file whose book has this shape; or the book alone, where
+    /// the damage can be done to one.
     pub fn apply(self, random: &mut Random, file: &mut Vec<u8>, shape: Shape) {
         match self {
             Damage::BitFlips => flip_bits(random, file),
@@ -61,7 +67,7 @@ impl Damage {
             Damage::WrongContents => change_contents(random, file),
             Damage::Unbalanced => change_book(random, file, unbalance),
             Damage::Misstated => change_book(random, file, misstate),
-            Damage::BeyondBound => pass_bound(random, file, shape),
+            Damage::BeyondBound => pass_bound(random, file),
             Damage::Noise => *file = noise(random),
         }
     }
@@ -124,57 +130,26 @@ fn change_contents(random: &mut Random, file: &mut [u8]) {
     change_number(random, &mut file[entry + field.start..entry + field.end]);
 }
 
-/// A field's place in the file, from its row's place.
-fn place(row: Range<usize>, field: usize, width: usize) -> Range<usize> {
-    row.start + field..row.start + field + width
+/// The book at the front of a file, where that is still sound.
+fn book_of(file: &[u8]) -> Option<Book> {
+    let total = u32_at(file, head::TOTAL) as usize;
+    Book::decode(file.get(..total)?).ok()
 }
 
 /// Changes the book at the front of a sound file.
 fn change_book(random: &mut Random, file: &mut [u8], change: fn(&mut Random, &mut Book)) {
-    let total = u32_at(file, head::TOTAL) as usize;
-    if let Ok(mut book) = Book::decode(&file[..total]) {
+    if let Some(mut book) = book_of(file) {
         change(random, &mut book);
         book.encode_into(file);
     }
 }
 
-/// Stores one field one beyond its bound.
-fn pass_bound(random: &mut Random, file: &mut [u8], shape: Shape) {
-    let contract_row = shape.contract(random.below(shape.contracts));
-    let account_row = shape.account(random.below(shape.members));
-    let position_row = shape.position(random.below(shape.members), random.below(shape.contracts));
-    let quadrillion: i64 = 1_000_000_000_000_000;
-    let accepted = i64::from(u32_at(file, account_row.start + account::ACCEPTED));
-    let narrow = |row: &Range<usize>, field, value| (place(row.clone(), field, 4), value);
-    let wide = |field, value| (place(account_row.clone(), field, 8), value);
-    let cases: [(Range<usize>, i64); 23] = [
-        narrow(&contract_row, contract::LAST_PRICE, 0),
-        narrow(&contract_row, contract::LAST_PRICE, 10_000_001),
-        narrow(&contract_row, contract::MULTIPLIER, 0),
-        narrow(&contract_row, contract::MULTIPLIER, 101),
-        narrow(&contract_row, contract::MARGIN_RATE, 0),
-        narrow(&contract_row, contract::MARGIN_RATE, 10_001),
-        narrow(&contract_row, contract::TRADE_FEE, 100_001),
-        narrow(&contract_row, contract::DELIVERY_FEE, 100_001),
-        narrow(&contract_row, contract::ZERO, 1),
-        narrow(&account_row, account::KIND, 0),
-        narrow(&account_row, account::KIND, 3),
-        narrow(&account_row, account::ACCEPTED, 20_001),
-        wide(account::RESERVE, quadrillion + 1),
-        wide(account::RESERVE, -quadrillion - 1),
-        wide(account::MARGIN, 10 * quadrillion + 1),
-        wide(account::USABLE, quadrillion + 1),
-        wide(account::MARKET_VALUE, quadrillion + 1),
-        wide(account::DISCOUNT, 8_001),
-        wide(account::DEPOSITS, -1),
-        wide(account::DEPOSITS, 1_000_000_000_000 * accepted + 1),
-        wide(account::WITHDRAWALS, -1),
-        wide(account::WITHDRAWALS, 1_000_000_000_000 * accepted + 1),
-        narrow(&position_row, position::ZERO, 1),
-    ];
-    let (field, value) = random.pick(&cases).clone();
-    let length = field.len();
-    file[field].copy_from_slice(&value.to_le_bytes()[..length]);
+/// Stores one field of the book one beyond one of its bounds.
+fn pass_bound(random: &mut Random, file: &mut [u8]) {
+    if let Some(book) = book_of(file) {
+        let field = random.pick(&fields(&book)).clone();
+        field.store(file, *random.pick(&field.beyond()));
+    }
 }
 
 /// Bytes of no meaning, at times behind a head that claims a book.

@@ -5,6 +5,8 @@ pub mod calls;
 pub mod case_e;
 pub mod damage;
 pub mod edges;
+pub mod fields;
+pub mod full_day;
 mod misstate;
 pub mod random;
 pub mod records;
@@ -93,8 +95,7 @@ fn records_for(random: &mut Random, book: &Book) -> (Vec<Vec<u8>>, Book) {
 fn prices(random: &mut Random, closing: &Book, temper: Temper) -> Vec<PricePair> {
     let mut pairs = Vec::new();
     for (contract, row) in closing.contracts.iter().enumerate() {
-        let last = row.last_price.0;
-        let near = (last - last / 20).max(1)..=(last + last / 20).min(*bounds::PRICE.end());
+        let near = books::near_last(row);
         let mut price = || {
             if temper == Temper::Extreme {
                 random.edge_count(bounds::PRICE)
@@ -116,20 +117,23 @@ fn prices(random: &mut Random, closing: &Book, temper: Temper) -> Vec<PricePair>
 
 /// The bytes of the prices; a few cannot stand.
 fn write_prices(random: &mut Random, pairs: &[PricePair]) -> Vec<u8> {
-    let mut numbers: Vec<i64> = Vec::new();
-    for pair in pairs {
-        numbers.extend([pair.settlement.0, pair.delivery.0]);
-    }
+    let mut bytes = price_bytes(pairs);
     if random.chance(10) {
-        let at = random.below(numbers.len());
-        let beyond = [0, 1, 10_000_000, 10_000_001, i64::from(u32::MAX)];
-        numbers[at] = *random.pick(&beyond);
-    }
-    let mut bytes = Vec::new();
-    for number in numbers {
-        bytes.extend((number as u32).to_le_bytes());
+        let at = random.below(bytes.len() / 4) * 4;
+        let beyond = [0, 1, 10_000_000, 10_000_001, u32::MAX];
+        bytes[at..at + 4].copy_from_slice(&random.pick(&beyond).to_le_bytes());
     }
     bytes
+}
+
+/// The bytes of evening prices that fit their fields.
+fn price_bytes(pairs: &[PricePair]) -> Vec<u8> {
+    let numbers = pairs
+        .iter()
+        .flat_map(|pair| [pair.settlement.0, pair.delivery.0]);
+    numbers
+        .flat_map(|number| (number as u32).to_le_bytes())
+        .collect()
 }
 
 /// Moves one member's reserve so that tonight's stands at an end of its range,

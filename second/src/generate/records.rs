@@ -1,5 +1,6 @@
 //! Streams of day records, chosen by how the book stands when each comes.
 
+use super::books::near_last;
 use super::random::Random;
 use crate::book::Book;
 use crate::bounds;
@@ -30,6 +31,21 @@ pub fn records(random: &mut Random, book: &Book, about: usize) -> (Vec<Vec<u8>>,
         stream.step();
     }
     (stream.records, stream.book)
+}
+
+/// The most lots a member may take under a mark; below 1 for none.
+fn takeable(book: &Book, role: Role, member: usize, contract: usize, mark: Mark) -> i64 {
+    let side = &book.position(member, contract)[role.side_under(mark)];
+    match closable(side, mark) {
+        Some(lots) => lots.0,
+        None => *bounds::HELD.end() - side.held().0,
+    }
+}
+
+/// The marks under which a member can take so many lots, if it may open.
+pub fn marks_for(book: &Book, role: Role, member: usize, contract: usize, lots: i64) -> Vec<Mark> {
+    let able = |&mark: &Mark| takeable(book, role, member, contract, mark) >= lots;
+    MARKS.into_iter().filter(able).collect()
 }
 
 impl Stream<'_> {
@@ -92,28 +108,17 @@ impl Stream<'_> {
     }
 
     fn price(&mut self, contract: usize) -> Price {
-        let last = self.book.contracts[contract].last_price.0;
-        let near = (last - last / 20).max(1)..=(last + last / 20).min(*bounds::PRICE.end());
         Price(if self.random.chance(90) {
+            let near = near_last(&self.book.contracts[contract]);
             self.random.count(near)
         } else {
             self.random.edge_count(bounds::PRICE)
         })
     }
 
-    /// The most lots a member may take under a mark; below 1 for none.
-    fn takeable(&self, role: Role, member: usize, contract: usize, mark: Mark) -> i64 {
-        let side = &self.book.position(member, contract)[role.side_under(mark)];
-        match closable(side, mark) {
-            Some(lots) => lots.0,
-            None => *bounds::HELD.end() - side.held().0,
-        }
-    }
-
     /// A mark under which the member can take some lots, if there is one.
     fn mark_for(&mut self, role: Role, member: usize, contract: usize) -> Mark {
-        let able = |&mark: &Mark| self.takeable(role, member, contract, mark) > 0;
-        let marks: Vec<Mark> = MARKS.into_iter().filter(able).collect();
+        let marks = marks_for(&self.book, role, member, contract, 1);
         if marks.is_empty() {
             *self.random.pick(&MARKS)
         } else {
@@ -141,7 +146,7 @@ impl Stream<'_> {
         };
         let takeable = trade
             .parties()
-            .map(|party| self.takeable(party.role, party.member, contract, party.mark));
+            .map(|party| takeable(&self.book, party.role, party.member, contract, party.mark));
         (trade, takeable[0].min(takeable[1]))
     }
 

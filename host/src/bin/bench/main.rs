@@ -1,17 +1,25 @@
 //! Measures the library against the second program, in one run, and prints a
 //! table.
 //!
-//! `bench` alone prints the table. `bench count OPERATION SIDE` makes one call
-//! of `counted`, for a tool that counts its instructions.
+//! `bench` alone prints the table of the library's functions. `bench evening
+//! PROGRAM SECOND` prints one more row, of these two evening programs. `bench
+//! count OPERATION SIDE` makes one call of `counted`, for a tool that counts its
+//! instructions.
+
+mod counts;
+mod evening;
+mod processor;
 
 use std::env;
 use std::hint::black_box;
-use std::process::{Command, ExitCode};
+use std::process::ExitCode;
 use std::time::Instant;
 
 use second::generate::books::{book, Hour, Temper};
 use second::generate::random::Random;
 use second::layout::{record, Shape};
+
+use crate::counts::{instructions, Run};
 
 /// Calls that are timed together, on one book.
 const CALLS: u32 = 32;
@@ -78,6 +86,10 @@ const OPERATIONS: &[Operation] = &[
     },
 ];
 
+const USAGE: &str = "usage: bench
+       bench evening PROGRAM SECOND
+       bench count OPERATION library|second";
+
 fn main() -> ExitCode {
     let arguments: Vec<String> = env::args().skip(1).collect();
     let words: Vec<&str> = arguments.iter().map(String::as_str).collect();
@@ -90,13 +102,19 @@ fn main() -> ExitCode {
             }
             None => return usage(),
         },
+        ["evening", library, second] => {
+            if let Err(error) = evening::row(library, second) {
+                eprintln!("bench: {error}");
+                return ExitCode::FAILURE;
+            }
+        }
         _ => return usage(),
     }
     ExitCode::SUCCESS
 }
 
 fn usage() -> ExitCode {
-    eprintln!("usage: bench\n       bench count OPERATION library|second");
+    eprintln!("{USAGE}");
     ExitCode::from(2)
 }
 
@@ -182,16 +200,8 @@ fn table() {
         alike(operation, &lent);
         let [library, second] = measure([operation.library, operation.second], &lent);
         let control = measure([operation.second, operation.second], &lent);
-        let counts = ["library", "second"].map(|side| instructions(operation.word, side));
-        let counted = counts.map(|count| match count {
-            Some(count) => count.to_string(),
-            None => "not counted".into(),
-        });
-        let count_ratio = match counts {
-            [Some(library), Some(second)] => ratio(library as f64, second as f64),
-            _ => String::new(),
-        };
-        let [library_count, second_count] = counted;
+        let counts = ["library", "second"].map(|side| of_one_call(operation.word, side));
+        let [library_count, second_count, count_ratio] = counts::fields(counts);
         let fields = [
             operation.title.into(),
             format!("{library:.1}"),
@@ -258,17 +268,17 @@ fn time(call: Call, lent: &mut Lent) -> f64 {
     start.elapsed().as_secs_f64() * 1e6 / f64::from(CALLS)
 }
 
-/// Instructions of one call as valgrind counts them; none where it is not there.
-fn instructions(operation: &str, side: &str) -> Option<u64> {
-    let program = env::current_exe().ok()?;
-    let run = Command::new("valgrind")
-        .args(["--tool=callgrind", "--callgrind-out-file=/dev/null"])
-        .args(["--collect-atstart=no", "--toggle-collect=counted"])
-        .arg(program)
-        .args(["count", operation, side])
-        .output()
+/// Instructions of one call; none where they cannot be counted.
+fn of_one_call(operation: &str, side: &str) -> Option<u64> {
+    let program = env::current_exe()
+        .ok()?
+        .into_os_string()
+        .into_string()
         .ok()?;
-    let said = String::from_utf8_lossy(&run.stderr).into_owned();
-    let line = said.lines().find(|line| line.contains("Collected :"))?;
-    line.rsplit(' ').next()?.parse().ok()
+    let words = [program.as_str(), "count", operation, side];
+    instructions(&mut Run {
+        words: words.map(String::from).to_vec(),
+        function: Some("counted"),
+        input: None,
+    })
 }
