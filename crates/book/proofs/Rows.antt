@@ -180,7 +180,7 @@ kind-is n e = elim (eqb n 1) as (λ (t : Bool). eqb n 1 ≡ t → kindNumber (co
   | false ↦ λ f. let ne : n ≢ 1 = eqb-false n 1 f in omega (arith, between-low 1 2 n e, between-high 1 2 n e)
 ] refl
 
-money-back : (n : ℕ) (amount : Fen) → SFits w64 (amount .0) → n ≡ ofZ w64 (amount .0) % 256 ^ 8 → toZ w64 n ≡ amount .0
+pub money-back : (n : ℕ) (amount : Fen) → SFits w64 (amount .0) → n ≡ ofZ w64 (amount .0) % 256 ^ 8 → toZ w64 n ≡ amount .0
 money-back n amount f e = signed-back n (amount .0) f (e ∙ mod-eq-of-lt (ofZ-fits w64 (amount .0) f .fits))
 
 pub contract-back : (xs : List ℕ) (o : ℕ) (c : Contract) → o + contractSize ≤ length xs → ContractFits c → contractAt (putContract xs o c) o ≡ c

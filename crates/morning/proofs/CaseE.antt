@@ -17,14 +17,18 @@ use Rattle.settlement.specs.Settle.{settleAnswer}
 use Rattle.morning.specs.CaseE.{bookE, pricesE, nextE, resultsE}
 
 pub results-of-E : resultBytes (bookAt bookE) pricesE ≡ resultsE
-unfolding foldTo numberAt bytesOf contractOff memberOff positionOff bookLength headAt entryAt contractAt figuresAt securitiesAt dayAt memberAt sideAt positionAt tallyIn tallyTo nightOf headBytes nextBytes resultBytes
+unfolding foldTo numberAt bytesOf contractOff memberOff positionOff bookLength headAt entryAt contractAt figuresAt securitiesAt dayAt
+    memberAt sideAt positionAt tallyIn tallyTo nightOf headBytes nextBytes resultBytes
 results-of-E = refl
 
 pub next-of-E : nextBytes (bookAt bookE) pricesE ≡ nextE
-unfolding foldTo numberAt bytesOf contractOff memberOff positionOff bookLength headAt entryAt contractAt figuresAt securitiesAt dayAt memberAt sideAt positionAt tallyIn tallyTo nightOf headBytes nextBytes resultBytes
+unfolding foldTo numberAt bytesOf contractOff memberOff positionOff bookLength headAt entryAt contractAt figuresAt securitiesAt dayAt
+    memberAt sideAt positionAt tallyIn tallyTo nightOf headBytes nextBytes resultBytes
 next-of-E = refl
 
 -- with room for 280 and 144 bytes it is answered 0; with a byte less for either 11, and without prices 8, before 11
 pub answers-of-E : (settleAnswer bookE pricesE 280 144 ≡ 0) × (settleAnswer bookE pricesE 279 144 ≡ 11) × (settleAnswer bookE pricesE 280 143 ≡ 11) × (settleAnswer bookE [] 279 144 ≡ 8)
-unfolding foldTo numberAt bytesOf contractOff memberOff positionOff bookLength headAt entryAt contractAt figuresAt securitiesAt dayAt memberAt sideAt positionAt tallyIn tallyTo nightOf nonePaired pricesOk reservesOk contentsOk headOk contractRows memberRows positionRow positionRows tradedOk balanced validRows validBook settleAnswer
+unfolding foldTo numberAt bytesOf contractOff memberOff positionOff bookLength headAt entryAt contractAt figuresAt securitiesAt dayAt
+    memberAt sideAt positionAt tallyIn tallyTo nightOf nonePaired pricesOk reservesOk contentsOk headOk contractRows memberRows positionRow
+    positionRows tradedOk balanced validRows validBook settleAnswer
 answers-of-E = (refl, refl, refl, refl)

@@ -21,11 +21,7 @@ use Rattle.folds.proofs.Rows.{row-back}
 use Rattle.folds.proofs.Laid.{sets-over, rows-back}
 use Rattle.book.specs.Heads.{headAt}
 use Rattle.book.specs.Books.{Book, bookAt}
-use native.Mathlib.Nat.{mod-eq-of-lt}
-use mir.ValLaws.{toZ-ofZ, ofZ-fits}
-use mir.Val.{ofZ}
-use Prim.Native.Nat.{_%_, _^_}
-use Rattle.rules.specs.declared.units.Fen.{Fen}
+use Rattle.book.proofs.Rows.{money-back}
 use Rattle.validity.specs.Valid.{validBook}
 use Rattle.validity.proofs.Facts.{valid-shaped, valid-ranged}
 use Rattle.tonight.specs.Night.{nightOf}
@@ -37,9 +33,6 @@ use Rattle.settlement.specs.Settle.{settleRules, settleAnswer, resultsAfter}
 use Rattle.settlement.proofs.Sizes.{result-size}
 use Rattle.settlement.proofs.Parts.{results-length}
 use Rattle.settlement.proofs.Answers.{Accepted, accepted, answer-valid, results-by}
-
-money-back : (n : ℕ) (amount : Fen) → SFits w64 (amount .0) → n ≡ ofZ w64 (amount .0) % 256 ^ 8 → toZ w64 n ≡ amount .0
-money-back n amount f e = ap (toZ w64) (e ∙ mod-eq-of-lt (ofZ-fits w64 (amount .0) f .fits)) ∙ toZ-ofZ w64 (amount .0) f
 
 module _ (xs ps next results : List ℕ) (e : settleAnswer xs ps (length next) (length results) ≡ 0) where
   abbrev b : Book

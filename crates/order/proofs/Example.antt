@@ -2,14 +2,14 @@
 use mathlib.Core.Path.{_≡_, refl, ap, sym}
 use mathlib.Core.Logic.{_≢_}
 use mathlib.Core.List.{List, [], _∷_, List·Memᴰ, List·Memᴰ·head, List·Memᴰ·tail, List·Memᴰ·eq-of-singleton, Memᴰ·cast}
-use Prim.Native.Nat.{ℕ, zero, suc, _+_, _<_}
+use Prim.Native.Nat.{ℕ, _+_}
 use native.Mathlib.Omega.{arith}
-use lib.ListN.{length, getD}
 use lib.Seq.{getD-set-other, set-comm}
 use Rattle.order.specs.Order.{final, answers, Arranged, Commutes, SameOutcome}
 use Rattle.order.specs.Lens.{Laws, after, answer}
 use Rattle.order.specs.Desk.{Desk, Slip, deposit, transfer, names, rules, desk, Common}
 use Rattle.order.proofs.Theorem.{order}
+use Rattle.order.proofs.Swapped.{swap, first-two}
 use Rattle.order.proofs.Locality.{commute}
 
 abbrev Always : ℕ → Desk → Type 0
@@ -54,55 +54,19 @@ xs = transfer 0 1 4 ∷ deposit 2 6 ∷ deposit 2 6 ∷ []
 abbrev ys : List Slip
 ys = deposit 2 6 ∷ transfer 0 1 4 ∷ deposit 2 6 ∷ []
 
--- 0 ↦ 1, 1 ↦ 0, 2 ↦ 2
-abbrev to : ℕ → ℕ
-to zero = 1
-to (suc zero) = 0
-to (suc (suc i)) = suc (suc i)
-
 not-two : (m : ℕ) → List·Memᴰ m (0 ∷ 1 ∷ []) → m ≢ 2
 not-two m (List·Memᴰ·head e) e′ = omega arith
 not-two m (List·Memᴰ·tail k) e′ = let e = List·Memᴰ·eq-of-singleton k in omega arith
 
-pub arranged : Arranged Common (deposit 0 0) xs ys to
-arranged = record { same-length = refl; within = within; once = once; same-record = same-record; same-order = same-order }
-  where
-    within : (i : ℕ) → i < 3 → to i < 3
-    within zero l = omega arith
-    within (suc zero) l = omega arith
-    within (suc (suc i)) l = omega arith
-
-    once : (i j : ℕ) → i < 3 → j < 3 → to i ≡ to j → i ≡ j
-    once zero zero l l′ e = refl
-    once zero (suc zero) l l′ e = absurd (omega arith)
-    once zero (suc (suc j)) l l′ e = absurd (omega arith)
-    once (suc zero) zero l l′ e = absurd (omega arith)
-    once (suc zero) (suc zero) l l′ e = refl
-    once (suc zero) (suc (suc j)) l l′ e = absurd (omega arith)
-    once (suc (suc i)) zero l l′ e = absurd (omega arith)
-    once (suc (suc i)) (suc zero) l l′ e = absurd (omega arith)
-    once (suc (suc i)) (suc (suc j)) l l′ e = e
-
-    same-record : (i : ℕ) → i < 3 → getD ys (to i) (deposit 0 0) ≡ getD xs i (deposit 0 0)
-    same-record zero l = refl
-    same-record (suc zero) l = refl
-    same-record (suc (suc zero)) l = refl
-    same-record (suc (suc (suc i))) l = absurd (omega arith)
-
-    same-order : (i j : ℕ) → i < j → j < 3 → Common (getD xs i (deposit 0 0)) (getD xs j (deposit 0 0)) → to i < to j
-    same-order i zero l l′ c = absurd (omega arith)
-    same-order zero (suc zero) l l′ c = absurd (not-two (c .0) (c .1) (List·Memᴰ·eq-of-singleton (c .2)))
-    same-order (suc i) (suc zero) l l′ c = absurd (omega arith)
-    same-order zero (suc (suc j)) l l′ c = omega arith
-    same-order (suc zero) (suc (suc j)) l l′ c = omega arith
-    same-order (suc (suc i)) (suc (suc j)) l l′ c = l
+pub arranged : Arranged Common (deposit 0 0) xs ys swap
+arranged = first-two Common (deposit 0 0) (transfer 0 1 4) (deposit 2 6) (deposit 2 6 ∷ []) (λ c. not-two (c .0) (c .1) (List·Memᴰ·eq-of-singleton (c .2)))
 
 -- the theorem at this pair, and both lists computed: nothing is said of nothing
 abbrev morning : Desk
 morning = record { accounts = 5 ∷ 7 ∷ 1 ∷ []; moved = 0 }
 
-pub by-theorem : SameOutcome (after desk names rules) (answer desk names rules) 0 morning xs ys to
-by-theorem = desk-order morning xs ys to arranged
+pub by-theorem : SameOutcome (after desk names rules) (answer desk names rules) 0 morning xs ys swap
+by-theorem = desk-order morning xs ys swap arranged
 
 pub evening : final (after desk names rules) morning xs ≡ record { accounts = 1 ∷ 11 ∷ 13 ∷ []; moved = 16 }
 evening = refl

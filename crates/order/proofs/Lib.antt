@@ -3,4 +3,5 @@ pub mod Pulling
 pub mod Places
 pub mod Theorem
 pub mod Locality
+pub mod Swapped
 pub mod Example

@@ -192,21 +192,13 @@ pub record Cancels (a a′ c c′ : Position) : Type 0 where
   pub cash : a′ .cash .0 +ℤ c′ .cash .0 ≡ a .cash .0 +ℤ c .cash .0
 
 -- no mark touches the opening or the paired lots
-opening-stays : (party : Party) (mark : Mark) (price : Price) (n : Lots) (p : Position) → openingOf (dealt party mark price n p) ≡ openingOf p
-opening-stays Buyer Opens price n p = refl
-opening-stays Buyer ClosesOld price n p = refl
-opening-stays Buyer ClosesNew price n p = refl
-opening-stays Seller Opens price n p = refl
-opening-stays Seller ClosesOld price n p = refl
-opening-stays Seller ClosesNew price n p = refl
-
-paired-stays : (party : Party) (mark : Mark) (price : Price) (n : Lots) (p : Position) → pairedOf (dealt party mark price n p) ≡ pairedOf p
-paired-stays Buyer Opens price n p = refl
-paired-stays Buyer ClosesOld price n p = refl
-paired-stays Buyer ClosesNew price n p = refl
-paired-stays Seller Opens price n p = refl
-paired-stays Seller ClosesOld price n p = refl
-paired-stays Seller ClosesNew price n p = refl
+lots-stay : (party : Party) (mark : Mark) (price : Price) (n : Lots) (p : Position) → let q = dealt party mark price n p in (openingOf q ≡ openingOf p) × (pairedOf q ≡ pairedOf p)
+lots-stay Buyer Opens price n p = (refl, refl)
+lots-stay Buyer ClosesOld price n p = (refl, refl)
+lots-stay Buyer ClosesNew price n p = (refl, refl)
+lots-stay Seller Opens price n p = (refl, refl)
+lots-stay Seller ClosesOld price n p = (refl, refl)
+lots-stay Seller ClosesNew price n p = (refl, refl)
 
 -- n lots closed are n lots fewer held
 held-less : (n : ℕ) (s : Side) → SideIn s → Closes n (s .opening .0 - s .closed .0) s → heldOf (marked ClosesOld n s) + n ≡ heldOf s
@@ -234,14 +226,12 @@ trade-cancels t a c s s′ ok ok′ =
     let p : Position = a .position in
     let q : Position = c .position in
     let z : ℤ = pos (t .lots .0 * t .price .0) in
-    let o = opening-stays Buyer (t .buying) (t .price) (t .lots) p in
-    let o′ = opening-stays Seller (t .selling) (t .price) (t .lots) q in
-    let r = paired-stays Buyer (t .buying) (t .price) (t .lots) p in
-    let r′ = paired-stays Seller (t .selling) (t .price) (t .lots) q in
+    let bought = lots-stay Buyer (t .buying) (t .price) (t .lots) p in
+    let sold = lots-stay Seller (t .selling) (t .price) (t .lots) q in
     record {
-      opening = omega (arith, longs o, shorts o, longs o′, shorts o′);
+      opening = omega (arith, longs (bought .0), shorts (bought .0), longs (sold .0), shorts (sold .0));
       held = omega (arith, bought-held (t .buying) (t .price) (t .lots) p (s .position) (ok .enough), sold-held (t .selling) (t .price) (t .lots) q (s′ .position) (ok′ .enough));
-      paired = omega (arith, longs r, shorts r, longs r′, shorts r′);
+      paired = omega (arith, longs (bought .1), shorts (bought .1), longs (sold .1), shorts (sold .1));
       cash = lin-eq (v (p .cash .0) ⊖ v z ⊕ (v (q .cash .0) ⊕ v z)) (v (p .cash .0) ⊕ v (q .cash .0)) (omega arith);
     }
   where

@@ -20,24 +20,37 @@ use Rattle.promises.specs.SmallBook.{bookWith, broker, other, longs, sho
 use Rattle.promises.proofs.Runs.{run-final, run-answers}
 
 pub valid : validBook morning ≡ true
-unfolding validBook headOk contentsOk validRows contractRows memberRows positionRow positionRows tradedOk balanced foldTo numberAt contractOff memberOff positionOff bookLength contractAt figuresAt securitiesAt dayAt memberAt sideAt positionAt headAt entryAt
+unfolding validBook headOk contentsOk validRows contractRows memberRows positionRow positionRows tradedOk balanced foldTo numberAt
+    contractOff memberOff positionOff bookLength contractAt figuresAt securitiesAt dayAt memberAt sideAt positionAt headAt entryAt
 valid = refl
 
 pub accepted : answer morning trade ≡ 0
-unfolding validBook headOk contentsOk validRows contractRows memberRows positionRow positionRows tradedOk balanced foldTo numberAt contractOff memberOff positionOff bookLength contractAt figuresAt securitiesAt dayAt memberAt sideAt positionAt headAt entryAt answer accountAt recordAt readTrade readPairing readDeposit readWithdrawal readPledge readKind requestOf tradeAnswer pairingAnswer depositAnswer withdrawalAnswer pledgeAnswer
+unfolding validBook headOk contentsOk validRows contractRows memberRows positionRow positionRows tradedOk balanced foldTo numberAt
+    contractOff memberOff positionOff bookLength contractAt figuresAt securitiesAt dayAt memberAt sideAt positionAt headAt entryAt answer
+    accountAt recordAt readTrade readPairing readDeposit readWithdrawal readPledge readKind requestOf tradeAnswer pairingAnswer
+    depositAnswer withdrawalAnswer pledgeAnswer
 accepted = refl
 
 pub posted : after morning trade ≡ traded
-unfolding validBook headOk contentsOk validRows contractRows memberRows positionRow positionRows tradedOk balanced foldTo numberAt contractOff memberOff positionOff bookLength contractAt figuresAt securitiesAt dayAt memberAt sideAt positionAt headAt entryAt answer accountAt recordAt readTrade readPairing readDeposit readWithdrawal readPledge readKind requestOf tradeAnswer pairingAnswer depositAnswer withdrawalAnswer pledgeAnswer after putAccount putMember putPosition bytesOf
+unfolding validBook headOk contentsOk validRows contractRows memberRows positionRow positionRows tradedOk balanced foldTo numberAt
+    contractOff memberOff positionOff bookLength contractAt figuresAt securitiesAt dayAt memberAt sideAt positionAt headAt entryAt answer
+    accountAt recordAt readTrade readPairing readDeposit readWithdrawal readPledge readKind requestOf tradeAnswer pairingAnswer
+    depositAnswer withdrawalAnswer pledgeAnswer after putAccount putMember putPosition bytesOf
 posted = refl
 
 -- the book is checked once for the run
 pub day-answers : answers after answer morning day ≡ dayNumbers
-unfolding validBook headOk contentsOk validRows contractRows memberRows positionRow positionRows tradedOk balanced foldTo numberAt contractOff memberOff positionOff bookLength contractAt figuresAt securitiesAt dayAt memberAt sideAt positionAt headAt entryAt answer accountAt recordAt readTrade readPairing readDeposit readWithdrawal readPledge readKind requestOf tradeAnswer pairingAnswer depositAnswer withdrawalAnswer pledgeAnswer after putAccount putMember putPosition bytesOf
+unfolding validBook headOk contentsOk validRows contractRows memberRows positionRow positionRows tradedOk balanced foldTo numberAt
+    contractOff memberOff positionOff bookLength contractAt figuresAt securitiesAt dayAt memberAt sideAt positionAt headAt entryAt answer
+    accountAt recordAt readTrade readPairing readDeposit readWithdrawal readPledge readKind requestOf tradeAnswer pairingAnswer
+    depositAnswer withdrawalAnswer pledgeAnswer after putAccount putMember putPosition bytesOf
 day-answers = run-answers morning day valid ∙ refl
 
 pub day-final : final after morning day ≡ evening
-unfolding validBook headOk contentsOk validRows contractRows memberRows positionRow positionRows tradedOk balanced foldTo numberAt contractOff memberOff positionOff bookLength contractAt figuresAt securitiesAt dayAt memberAt sideAt positionAt headAt entryAt answer accountAt recordAt readTrade readPairing readDeposit readWithdrawal readPledge readKind requestOf tradeAnswer pairingAnswer depositAnswer withdrawalAnswer pledgeAnswer after putAccount putMember putPosition bytesOf
+unfolding validBook headOk contentsOk validRows contractRows memberRows positionRow positionRows tradedOk balanced foldTo numberAt
+    contractOff memberOff positionOff bookLength contractAt figuresAt securitiesAt dayAt memberAt sideAt positionAt headAt entryAt answer
+    accountAt recordAt readTrade readPairing readDeposit readWithdrawal readPledge readKind requestOf tradeAnswer pairingAnswer
+    depositAnswer withdrawalAnswer pledgeAnswer after putAccount putMember putPosition bytesOf
 day-final = run-final morning day valid ∙ refl
 
 pub other-answers :
@@ -47,13 +60,22 @@ pub other-answers :
     ∷ answer (bookWith broker other allLongs allShorts) closing
     ∷ answer (bookWith broker other longs longs) trade
     ∷ [] ≡ otherNumbers
-unfolding validBook headOk contentsOk validRows contractRows memberRows positionRow positionRows tradedOk balanced foldTo numberAt contractOff memberOff positionOff bookLength contractAt figuresAt securitiesAt dayAt memberAt sideAt positionAt headAt entryAt answer accountAt recordAt readTrade readPairing readDeposit readWithdrawal readPledge readKind requestOf tradeAnswer pairingAnswer depositAnswer withdrawalAnswer pledgeAnswer
+unfolding validBook headOk contentsOk validRows contractRows memberRows positionRow positionRows tradedOk balanced foldTo numberAt
+    contractOff memberOff positionOff bookLength contractAt figuresAt securitiesAt dayAt memberAt sideAt positionAt headAt entryAt answer
+    accountAt recordAt readTrade readPairing readDeposit readWithdrawal readPledge readKind requestOf tradeAnswer pairingAnswer
+    depositAnswer withdrawalAnswer pledgeAnswer
 other-answers = refl
 
 pub malformed-answers : answers after answer morning malformed ≡ map (λ (r : List ℕ). 1) malformed
-unfolding validBook headOk contentsOk validRows contractRows memberRows positionRow positionRows tradedOk balanced foldTo numberAt contractOff memberOff positionOff bookLength contractAt figuresAt securitiesAt dayAt memberAt sideAt positionAt headAt entryAt answer accountAt recordAt readTrade readPairing readDeposit readWithdrawal readPledge readKind requestOf tradeAnswer pairingAnswer depositAnswer withdrawalAnswer pledgeAnswer after putAccount putMember putPosition bytesOf
+unfolding validBook headOk contentsOk validRows contractRows memberRows positionRow positionRows tradedOk balanced foldTo numberAt
+    contractOff memberOff positionOff bookLength contractAt figuresAt securitiesAt dayAt memberAt sideAt positionAt headAt entryAt answer
+    accountAt recordAt readTrade readPairing readDeposit readWithdrawal readPledge readKind requestOf tradeAnswer pairingAnswer
+    depositAnswer withdrawalAnswer pledgeAnswer after putAccount putMember putPosition bytesOf
 malformed-answers = run-answers morning malformed valid ∙ refl
 
 pub edges-answers : answers after answer morning edges ≡ map (λ (r : List ℕ). 0) edges
-unfolding validBook headOk contentsOk validRows contractRows memberRows positionRow positionRows tradedOk balanced foldTo numberAt contractOff memberOff positionOff bookLength contractAt figuresAt securitiesAt dayAt memberAt sideAt positionAt headAt entryAt answer accountAt recordAt readTrade readPairing readDeposit readWithdrawal readPledge readKind requestOf tradeAnswer pairingAnswer depositAnswer withdrawalAnswer pledgeAnswer after putAccount putMember putPosition bytesOf
+unfolding validBook headOk contentsOk validRows contractRows memberRows positionRow positionRows tradedOk balanced foldTo numberAt
+    contractOff memberOff positionOff bookLength contractAt figuresAt securitiesAt dayAt memberAt sideAt positionAt headAt entryAt answer
+    accountAt recordAt readTrade readPairing readDeposit readWithdrawal readPledge readKind requestOf tradeAnswer pairingAnswer
+    depositAnswer withdrawalAnswer pledgeAnswer after putAccount putMember putPosition bytesOf
 edges-answers = run-answers morning edges valid ∙ refl

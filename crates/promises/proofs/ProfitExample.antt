@@ -31,7 +31,9 @@ use Rattle.promises.proofs.Example.{day-answers, day-final}
 use Rattle.promises.proofs.ProfitOfRecords.{the-profit}
 
 pub opening-book : openingBook morning ≡ true
-unfolding openingBook freshRows validBook headOk contentsOk validRows contractRows memberRows positionRow positionRows tradedOk balanced foldTo numberAt contractOff memberOff positionOff bookLength contractAt figuresAt securitiesAt dayAt memberAt sideAt positionAt headAt entryAt
+unfolding openingBook freshRows validBook headOk contentsOk validRows contractRows memberRows positionRow positionRows tradedOk balanced
+    foldTo numberAt contractOff memberOff positionOff bookLength contractAt figuresAt securitiesAt dayAt memberAt sideAt positionAt headAt
+    entryAt
 opening-book = refl
 
 -- the refused records are not there, nor those that move money
@@ -62,9 +64,15 @@ profit-of-1 a = the-profit morning day opening-book tonight delivery 1 (omega ar
 
 -- 01's Case E, settled at 505,000
 pub case-e-of-0 : {profit : Fen} → ByArticle morning (caseE ∷ []) tonight (λ j. price 0) 0 profit → profit ≡ fen (pos 700_000)
-unfolding validBook headOk contentsOk validRows contractRows memberRows positionRow positionRows tradedOk balanced foldTo numberAt contractOff memberOff positionOff bookLength contractAt figuresAt securitiesAt dayAt memberAt sideAt positionAt headAt entryAt answer accountAt recordAt readTrade readPairing readDeposit readWithdrawal readPledge readKind requestOf tradeAnswer pairingAnswer depositAnswer withdrawalAnswer pledgeAnswer after putAccount putMember putPosition bytesOf
+unfolding validBook headOk contentsOk validRows contractRows memberRows positionRow positionRows tradedOk balanced foldTo numberAt
+    contractOff memberOff positionOff bookLength contractAt figuresAt securitiesAt dayAt memberAt sideAt positionAt headAt entryAt answer
+    accountAt recordAt readTrade readPairing readDeposit readWithdrawal readPledge readKind requestOf tradeAnswer pairingAnswer
+    depositAnswer withdrawalAnswer pledgeAnswer after putAccount putMember putPosition bytesOf
 case-e-of-0 a = the-profit morning (caseE ∷ []) opening-book tonight (λ j. price 0) 0 (omega arith) a ∙ refl
 
 pub case-e-of-1 : {profit : Fen} → ByArticle morning (caseE ∷ []) tonight (λ j. price 0) 1 profit → profit ≡ fen (negsuc 699_999)
-unfolding validBook headOk contentsOk validRows contractRows memberRows positionRow positionRows tradedOk balanced foldTo numberAt contractOff memberOff positionOff bookLength contractAt figuresAt securitiesAt dayAt memberAt sideAt positionAt headAt entryAt answer accountAt recordAt readTrade readPairing readDeposit readWithdrawal readPledge readKind requestOf tradeAnswer pairingAnswer depositAnswer withdrawalAnswer pledgeAnswer after putAccount putMember putPosition bytesOf
+unfolding validBook headOk contentsOk validRows contractRows memberRows positionRow positionRows tradedOk balanced foldTo numberAt
+    contractOff memberOff positionOff bookLength contractAt figuresAt securitiesAt dayAt memberAt sideAt positionAt headAt entryAt answer
+    accountAt recordAt readTrade readPairing readDeposit readWithdrawal readPledge readKind requestOf tradeAnswer pairingAnswer
+    depositAnswer withdrawalAnswer pledgeAnswer after putAccount putMember putPosition bytesOf
 case-e-of-1 a = the-profit morning (caseE ∷ []) opening-book tonight (λ j. price 0) 1 (omega arith) a ∙ refl

@@ -47,7 +47,10 @@ unfolding eveningAnswer
 returns-3 c = rw (sound (c .before .before .before .before), room (c .before .before), lt-ltb (c .before .before .before .before .before .before .before .before .args .results) (c .before .before .before .before .before .before .before .before .args .h .members * resultSize) (c .if3 .taken))
 
 reserves-ok-requires : tie.Need-reserves-ok-requires
-reserves-ok-requires c κs = record { shaped = c .before .before .before .before .before .before .before .before .pre .0; ranged = c .before .before .before .before .before .before .before .before .pre .1; priced = priced (bookBy (c .before .before .before .before .before .before .before .before .args .h) (c .before .before .before .before .before .before .before .before .args .book .now)) (c .before .before .before .before .before .before .before .before .args .prices .now) (sound (c .before .before .before .before)) }
+reserves-ok-requires c κs =
+    let args = c .before .before .before .before .before .before .before .before .args in
+    let pre = c .before .before .before .before .before .before .before .before .pre in
+    record { shaped = pre .0; ranged = pre .1; priced = priced (bookBy (args .h) (args .book .now)) (args .prices .now) (sound (c .before .before .before .before)) }
 
 returns-4 : tie.Need-returns-4
 unfolding eveningAnswer

@@ -28,14 +28,23 @@ valid-requires : tie.Need-valid-requires
 valid-requires c κs = search needs
 
 returns : tie.Need-returns
-returns c = let e = answer-invalid (c .before .before .before .before .before .before .args .book .now) (c .before .before .before .before .before .before .args .prices .now) (length (c .before .before .before .before .before .before .args .next .now)) (length (c .before .before .before .before .before .before .args .results .now)) (sym (c .before .valid .ensures) ∙ not-true (c .before .valid .result) (c .if1 .taken)) in
-    (sym e, (sym (next-by (c .before .before .before .before .before .before .args .book .now) (c .before .before .before .before .before .before .args .prices .now) (c .before .before .before .before .before .before .args .next .now) (c .before .before .before .before .before .before .args .results .now) 10 e), sym (results-by (c .before .before .before .before .before .before .args .book .now) (c .before .before .before .before .before .before .args .prices .now) (c .before .before .before .before .before .before .args .next .now) (c .before .before .before .before .before .before .args .results .now) 10 e)))
+returns c =
+    let args = c .before .before .before .before .before .before .args in
+    let results = args .results .now in
+    let prices = args .prices .now in
+    let book = args .book .now in
+    let next = args .next .now in
+    let e = answer-invalid book prices (length next) (length results) (sym (c .before .valid .ensures) ∙ not-true (c .before .valid .result) (c .if1 .taken)) in
+    (sym e, (sym (next-by book prices next results 10 e), sym (results-by book prices next results 10 e)))
 
 head-at-requires : tie.Need-head-at-requires
 head-at-requires c κs = head-room (c .before .before .before .before .before .before .args .book .now) (valid-head (c .before .before .before .before .before .before .args .book .now) (sound c))
 
 settle-valid-requires : tie.Need-settle-valid-requires
-settle-valid-requires c κs = subst (λ (h : Head). Shaped (c .before .before .before .before .before .before .before .before .before .args .book .now) h × Ranged (bookBy h (c .before .before .before .before .before .before .before .before .before .args .book .now))) (sym (c .before .before .head-at .ensures)) (valid-shaped (c .before .before .before .before .before .before .before .before .before .args .book .now) (sound (c .before .before .before)), valid-ranged (c .before .before .before .before .before .before .before .before .before .args .book .now) (sound (c .before .before .before)))
+settle-valid-requires c κs =
+    let args = c .before .before .before .before .before .before .before .before .before .args in
+    let book = args .book .now in
+    subst (λ (h : Head). Shaped book h × Ranged (bookBy h book)) (sym (c .before .before .head-at .ensures)) (valid-shaped book (sound (c .before .before .before)), valid-ranged book (sound (c .before .before .before)))
 
 same-length : tie.Need-same-length
 same-length c = search needs
@@ -44,13 +53,19 @@ same-length-2 : tie.Need-same-length-2
 same-length-2 c = search needs
 
 returns-2 : tie.Need-returns-2
-returns-2 c = let h = c .before .before .before .before .before .before .before .head-at .ensures in
-    let e = answer-valid (c .before .before .before .before .before .before .before .before .before .before .before .before .before .before .args .book .now) (c .before .before .before .before .before .before .before .before .before .before .before .before .before .before .args .prices .now) (length (c .before .before .before .before .before .before .before .before .before .before .before .before .before .before .args .next .now)) (length (c .before .before .before .before .before .before .before .before .before .before .before .before .before .before .args .results .now)) (sound (c .before .before .before .before .before .before .before .before)) in
-    let r = c .before .before .before .before .settle-valid .ensures .0 ∙ (λ i. eveningAnswer (bookBy (h i) (c .before .before .before .before .before .before .before .before .before .before .before .before .before .before .args .book .now)) (c .before .before .before .before .before .before .before .before .before .before .before .before .before .before .args .prices .now) (length (c .before .before .before .before .before .before .before .before .before .before .before .before .before .before .args .next .now)) (length (c .before .before .before .before .before .before .before .before .before .before .before .before .before .before .args .results .now))) ∙ sym e in (
+returns-2 c =
+    let args = c .before .before .before .before .before .before .before .before .before .before .before .before .before .before .args in
+    let results = args .results .now in
+    let prices = args .prices .now in
+    let book = args .book .now in
+    let next = args .next .now in
+    let h = c .before .before .before .before .before .before .before .head-at .ensures in
+    let e = answer-valid book prices (length next) (length results) (sound (c .before .before .before .before .before .before .before .before)) in
+    let r = c .before .before .before .before .settle-valid .ensures .0 ∙ (λ i. eveningAnswer (bookBy (h i) book) prices (length next) (length results)) ∙ sym e in (
       r,
       (
-        c .before .before .before .before .settle-valid .ensures .1 .0 ∙ (λ i. onZero (c .before .before .before .before .settle-valid .result) (over (nextBytes (bookBy (h i) (c .before .before .before .before .before .before .before .before .before .before .before .before .before .before .args .book .now)) (c .before .before .before .before .before .before .before .before .before .before .before .before .before .before .args .prices .now)) (c .before .before .before .before .before .before .before .before .before .before .before .before .before .before .args .next .now)) (c .before .before .before .before .before .before .before .before .before .before .before .before .before .before .args .next .now)) ∙ sym (next-by (c .before .before .before .before .before .before .before .before .before .before .before .before .before .before .args .book .now) (c .before .before .before .before .before .before .before .before .before .before .before .before .before .before .args .prices .now) (c .before .before .before .before .before .before .before .before .before .before .before .before .before .before .args .next .now) (c .before .before .before .before .before .before .before .before .before .before .before .before .before .before .args .results .now) (c .before .before .before .before .settle-valid .result) (sym r)),
-        c .before .before .before .before .settle-valid .ensures .1 .1 ∙ (λ i. onZero (c .before .before .before .before .settle-valid .result) (over (resultBytes (bookBy (h i) (c .before .before .before .before .before .before .before .before .before .before .before .before .before .before .args .book .now)) (c .before .before .before .before .before .before .before .before .before .before .before .before .before .before .args .prices .now)) (c .before .before .before .before .before .before .before .before .before .before .before .before .before .before .args .results .now)) (c .before .before .before .before .before .before .before .before .before .before .before .before .before .before .args .results .now)) ∙ sym (results-by (c .before .before .before .before .before .before .before .before .before .before .before .before .before .before .args .book .now) (c .before .before .before .before .before .before .before .before .before .before .before .before .before .before .args .prices .now) (c .before .before .before .before .before .before .before .before .before .before .before .before .before .before .args .next .now) (c .before .before .before .before .before .before .before .before .before .before .before .before .before .before .args .results .now) (c .before .before .before .before .settle-valid .result) (sym r)),
+        c .before .before .before .before .settle-valid .ensures .1 .0 ∙ (λ i. onZero (c .before .before .before .before .settle-valid .result) (over (nextBytes (bookBy (h i) book) prices) next) next) ∙ sym (next-by book prices next results (c .before .before .before .before .settle-valid .result) (sym r)),
+        c .before .before .before .before .settle-valid .ensures .1 .1 ∙ (λ i. onZero (c .before .before .before .before .settle-valid .result) (over (resultBytes (bookBy (h i) book) prices) results) results) ∙ sym (results-by book prices next results (c .before .before .before .before .settle-valid .result) (sym r)),
       ),
     )
 

@@ -15,14 +15,17 @@ use Rattle.settlement.proofs.Answers.{Accepted, accepted}
 use Rattle.settlement.proofs.settle_valid.Statement.{statement}
 use Rattle.settlement.proofs.settle_valid.Tie as tie
 
-zero : (c : tie.Else1) → eveningAnswer (bookBy (c .before .before .before .before .before .before .args .h) (c .before .before .before .before .before .before .args .book .now)) (c .before .before .before .before .before .before .args .prices .now) (length (c .before .before .before .before .before .before .args .next .now)) (length (c .before .before .before .before .before .before .args .results .now)) ≡ 0
+zero : (c : tie.Else1) → let args = c .before .before .before .before .before .before .args in eveningAnswer (bookBy (args .h) (args .book .now)) (args .prices .now) (length (args .next .now)) (length (args .results .now)) ≡ 0
 zero c = sym (c .before .refusal .ensures) ∙ c .if1 .left
 
-done : (c : tie.Else1) → Accepted (bookBy (c .before .before .before .before .before .before .args .h) (c .before .before .before .before .before .before .args .book .now)) (c .before .before .before .before .before .before .args .prices .now) (length (c .before .before .before .before .before .before .args .next .now)) (length (c .before .before .before .before .before .before .args .results .now))
+done : (c : tie.Else1) → let args = c .before .before .before .before .before .before .args in Accepted (bookBy (args .h) (args .book .now)) (args .prices .now) (length (args .next .now)) (length (args .results .now))
 done c = accepted (bookBy (c .before .before .before .before .before .before .args .h) (c .before .before .before .before .before .before .args .book .now)) (c .before .before .before .before .before .before .args .prices .now) (length (c .before .before .before .before .before .before .args .next .now)) (length (c .before .before .before .before .before .before .args .results .now)) (zero c)
 
-evening : (c : tie.Else1) → Evening (c .before .before .before .before .before .before .args .book .now) (c .before .before .before .before .before .before .args .prices .now) (c .before .before .before .before .before .before .args .h)
-evening c = record { shaped = c .before .before .before .before .before .before .pre .0; ranged = c .before .before .before .before .before .before .pre .1; priced = priced (bookBy (c .before .before .before .before .before .before .args .h) (c .before .before .before .before .before .before .args .book .now)) (c .before .before .before .before .before .before .args .prices .now) (done c .prices) }
+evening : (c : tie.Else1) → let args = c .before .before .before .before .before .before .args in Evening (args .book .now) (args .prices .now) (args .h)
+evening c =
+    let args = c .before .before .before .before .before .before .args in
+    let pre = c .before .before .before .before .before .before .pre in
+    record { shaped = pre .0; ranged = pre .1; priced = priced (bookBy (args .h) (args .book .now)) (args .prices .now) (done c .prices) }
 
 refusal-requires : tie.Need-refusal-requires
 refusal-requires c κs = search needs
@@ -43,12 +46,15 @@ same-length-2 : tie.Need-same-length-2
 same-length-2 c = search needs
 
 returns-2 : tie.Need-returns-2
-returns-2 c = let b = bookBy (c .before .before .before .before .before .before .before .before .before .before .before .before .before .before .args .h) (c .before .before .before .before .before .before .before .before .before .before .before .before .before .before .args .book .now) in
+returns-2 c =
+    let args = c .before .before .before .before .before .before .before .before .before .before .before .before .before .before .args in
+    let prices = args .prices .now in
+    let b = bookBy (args .h) (args .book .now) in
     let d = c .before .before .before .before .before .before .before .before in (
       sym (zero d),
       (
-        c .before .before .before .before .before .before .put-next .ensures ∙ sets-over (nextBytes b (c .before .before .before .before .before .before .before .before .before .before .before .before .before .before .args .prices .now)) (c .before .before .before .before .before .before .before .before .before .before .before .before .before .before .args .next .now) (omega (arith, next-length b (c .before .before .before .before .before .before .before .before .before .before .before .before .before .before .args .prices .now), done d .next)),
-        c .before .before .put-results .ensures ∙ sets-over (resultBytes b (c .before .before .before .before .before .before .before .before .before .before .before .before .before .before .args .prices .now)) (c .before .before .before .before .before .before .before .before .before .before .before .before .before .before .args .results .now) (omega (arith, results-length b (c .before .before .before .before .before .before .before .before .before .before .before .before .before .before .args .prices .now), done d .results)),
+        c .before .before .before .before .before .before .put-next .ensures ∙ sets-over (nextBytes b prices) (args .next .now) (omega (arith, next-length b prices, done d .next)),
+        c .before .before .put-results .ensures ∙ sets-over (resultBytes b prices) (args .results .now) (omega (arith, results-length b prices, done d .results)),
       ),
     )
 

@@ -37,7 +37,17 @@ loop-less c = omega arith
 
 loop-again : tie.Need-loop-again Inv-loop μ-loop
 unfolding contractOff
-loop-again c = (omega arith, omega arith, c .before .before .put-contract .ensures ∙ ap (λ (x : List ℕ). sets x (contractOff (c .before .before .before .before .before .loop .j)) (contractBytes (bookBy (c .before .before .before .before .before .before .before .before .before .args .h) (c .before .before .before .before .before .before .before .before .before .args .book .now)) (c .before .before .before .before .before .before .before .before .before .args .evening .now) (c .before .before .before .before .before .loop .j))) (c .before .before .before .before .before .loop .inv .2) ∙ sets-step (c .before .before .before .before .before .before .before .before .before .args .next .now) contractsStart contractSize (contractBytes (bookBy (c .before .before .before .before .before .before .before .before .before .args .h) (c .before .before .before .before .before .before .before .before .before .args .book .now)) (c .before .before .before .before .before .before .before .before .before .args .evening .now)) (contract-size (bookBy (c .before .before .before .before .before .before .before .before .before .args .h) (c .before .before .before .before .before .before .before .before .before .args .book .now)) (c .before .before .before .before .before .before .before .before .before .args .evening .now)) (c .before .before .before .before .before .loop .j))
+loop-again c =
+    let args = c .before .before .before .before .before .before .before .before .before .args in
+    let evening = args .evening .now in
+    let book = args .book .now in
+    let h = args .h in
+    let loop = c .before .before .before .before .before .loop in
+    let laid =
+    c .before .before .put-contract .ensures
+    ∙ ap (λ (x : List ℕ). sets x (contractOff (loop .j)) (contractBytes (bookBy h book) evening (loop .j))) (loop .inv .2)
+    ∙ sets-step (args .next .now) contractsStart contractSize (contractBytes (bookBy h book) evening) (contract-size (bookBy h book) evening) (loop .j) in
+    (omega arith, omega arith, laid)
 
 same-length : tie.Need-same-length Inv-loop μ-loop
 same-length c = omega arith

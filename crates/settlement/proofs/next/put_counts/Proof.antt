@@ -33,7 +33,13 @@ same-length : tie.Need-same-length
 same-length c = search needs
 
 returns : tie.Need-returns
-returns c = rw (c .before .before .write-u32 .ensures, c .before .before .before .before .before .before .write-u162 .ensures, c .before .before .before .before .before .before .before .before .before .before .before .write-u16 .ensures, c .before .before .before .before .before .before .before .before .before .before .before .before .before .before .book-length .ensures) (put-row (headFields (c .before .before .before .before .before .before .before .before .before .before .before .before .before .before .before .before .args .h)) (c .before .before .before .before .before .before .before .before .before .before .before .before .before .before .before .before .args .next .now) 0 refl)
+returns c =
+    let args = c .before .before .before .before .before .before .before .before .before .before .before .before .before .before .before .before .args in
+    let write-u32 = c .before .before .write-u32 .ensures in
+    let write-u162 = c .before .before .before .before .before .before .write-u162 .ensures in
+    let write-u16 = c .before .before .before .before .before .before .before .before .before .before .before .write-u16 .ensures in
+    let book-length = c .before .before .before .before .before .before .before .before .before .before .before .before .before .before .book-length .ensures in
+    rw (write-u32, write-u162, write-u16, book-length) (put-row (headFields (args .h)) (args .next .now) 0 refl)
 
 pub put-counts-spec : {M : Type 1} → statement M
 put-counts-spec =

@@ -29,7 +29,9 @@ same-length : tie.Need-same-length
 same-length c = search needs
 
 returns : tie.Need-returns
-returns c = rw (c .before .before .write-u32 .ensures, c .before .before .before .before .before .before .write-u162 .ensures, c .before .before .before .before .before .before .before .before .before .before .write-u16 .ensures) (put-row (entryFields (entry (c .before .before .before .before .before .before .before .before .before .before .before .before .before .args .section) (c .before .before .before .before .before .before .before .before .before .before .before .before .before .args .size) (c .before .before .before .before .before .before .before .before .before .before .before .before .before .args .start))) (c .before .before .before .before .before .before .before .before .before .before .before .before .before .args .next .now) (c .before .before .before .before .before .before .before .before .before .before .before .before .before .args .off) refl)
+returns c =
+    let args = c .before .before .before .before .before .before .before .before .before .before .before .before .before .args in
+    rw (c .before .before .write-u32 .ensures, c .before .before .before .before .before .before .write-u162 .ensures, c .before .before .before .before .before .before .before .before .before .before .write-u16 .ensures) (put-row (entryFields (entry (args .section) (args .size) (args .start))) (args .next .now) (args .off) refl)
 
 pub put-entry-spec : {M : Type 1} → statement M
 put-entry-spec =

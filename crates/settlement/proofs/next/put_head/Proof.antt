@@ -62,11 +62,14 @@ same-length : tie.Need-same-length
 same-length c = search needs
 
 returns : tie.Need-returns
-returns c = let m = c .before .before .before .before .before .before .before .before .before .before .before .before .before .before .before .before .before .member-off .ensures ∙ first-member (c .before .before .before .before .before .before .before .before .before .before .before .before .before .before .before .before .before .before .before .args .h) in
-    let p = c .before .before .before .before .before .before .before .before .before .before .before .before .before .before .before .before .position-off .ensures ∙ first-position (c .before .before .before .before .before .before .before .before .before .before .before .before .before .before .before .before .before .before .before .args .h) in
+returns c =
+    let args = c .before .before .before .before .before .before .before .before .before .before .before .before .before .before .before .before .before .before .before .args in
+    let h = args .h in
+    let m = c .before .before .before .before .before .before .before .before .before .before .before .before .before .before .before .before .before .member-off .ensures ∙ first-member h in
+    let p = c .before .before .before .before .before .before .before .before .before .before .before .before .before .before .before .before .position-off .ensures ∙ first-position h in
     let one = c .before .before .before .before .before .before .before .before .before .before .put-entry .ensures ∙ (λ i. sets (c .before .before .before .before .before .before .before .before .before .before .before .before .before .before .put-counts .ensures i) (entryOff 0) (rowBytes (entryFields contractsEntry))) in
     let two = c .before .before .before .before .before .before .put-entry2 .ensures ∙ (λ i. sets (one i) (entryOff 1) (rowBytes (entryFields (entry 2 memberSize (m i))))) in
-    c .before .before .put-entry3 .ensures ∙ (λ i. sets (two i) (entryOff 2) (rowBytes (entryFields (entry 3 positionSize (p i))))) ∙ head-parts (c .before .before .before .before .before .before .before .before .before .before .before .before .before .before .before .before .before .before .before .args .h) (c .before .before .before .before .before .before .before .before .before .before .before .before .before .before .before .before .before .before .before .args .next .now)
+    c .before .before .put-entry3 .ensures ∙ (λ i. sets (two i) (entryOff 2) (rowBytes (entryFields (entry 3 positionSize (p i))))) ∙ head-parts h (args .next .now)
 
 pub put-head-spec : {M : Type 1} → statement M
 put-head-spec =

@@ -31,7 +31,10 @@ member-after-requires : tie.Need-member-after-requires
 member-after-requires c κs = search needs
 
 put-member-requires : tie.Need-put-member-requires
-put-member-requires c κs = omega (arith, c .before .before .before .before .member-off .ensures, member-within (c .before .before .before .before .before .before .before .before .args .h) (c .before .before .before .before .before .before .before .before .args .m) (c .before .before .before .before .before .before .before .before .pre .2), c .before .before .before .before .before .before .before .before .pre .1)
+put-member-requires c κs =
+    let args = c .before .before .before .before .before .before .before .before .args in
+    let pre = c .before .before .before .before .before .before .before .before .pre in
+    omega (arith, c .before .before .before .before .member-off .ensures, member-within (args .h) (args .m) (pre .2), pre .1)
 
 same-length : tie.Need-same-length
 same-length c = search needs

@@ -37,7 +37,17 @@ loop-less c = omega arith
 
 loop-again : tie.Need-loop-again Inv-loop μ-loop
 unfolding memberOff
-loop-again c = (omega arith, omega arith, c .before .before .put-member .ensures ∙ ap (λ (x : List ℕ). sets x (memberOff (c .before .before .before .before .before .before .before .before .before .args .h) (c .before .before .before .before .before .loop .m)) (memberBytes (bookBy (c .before .before .before .before .before .before .before .before .before .args .h) (c .before .before .before .before .before .before .before .before .before .args .book .now)) (c .before .before .before .before .before .before .before .before .before .args .evening .now) (c .before .before .before .before .before .loop .m))) (c .before .before .before .before .before .loop .inv .2) ∙ sets-step (c .before .before .before .before .before .before .before .before .before .args .next .now) (membersStart (c .before .before .before .before .before .before .before .before .before .args .h)) memberSize (memberBytes (bookBy (c .before .before .before .before .before .before .before .before .before .args .h) (c .before .before .before .before .before .before .before .before .before .args .book .now)) (c .before .before .before .before .before .before .before .before .before .args .evening .now)) (member-size (bookBy (c .before .before .before .before .before .before .before .before .before .args .h) (c .before .before .before .before .before .before .before .before .before .args .book .now)) (c .before .before .before .before .before .before .before .before .before .args .evening .now)) (c .before .before .before .before .before .loop .m))
+loop-again c =
+    let args = c .before .before .before .before .before .before .before .before .before .args in
+    let evening = args .evening .now in
+    let book = args .book .now in
+    let h = args .h in
+    let loop = c .before .before .before .before .before .loop in
+    let laid =
+    c .before .before .put-member .ensures
+    ∙ ap (λ (x : List ℕ). sets x (memberOff h (loop .m)) (memberBytes (bookBy h book) evening (loop .m))) (loop .inv .2)
+    ∙ sets-step (args .next .now) (membersStart h) memberSize (memberBytes (bookBy h book) evening) (member-size (bookBy h book) evening) (loop .m) in
+    (omega arith, omega arith, laid)
 
 same-length : tie.Need-same-length Inv-loop μ-loop
 same-length c = omega arith

@@ -24,7 +24,13 @@ same-length : tie.Need-same-length
 same-length c = search needs
 
 returns : tie.Need-returns
-returns c = rw (c .before .before .put-positions .ensures, c .before .before .before .before .before .before .put-members .ensures, c .before .before .before .before .before .before .before .before .before .before .put-contracts .ensures, c .before .before .before .before .before .before .before .before .before .before .before .before .before .before .put-head .ensures) (next-parts (bookBy (c .before .before .before .before .before .before .before .before .before .before .before .before .before .before .before .before .before .before .before .args .h) (c .before .before .before .before .before .before .before .before .before .before .before .before .before .before .before .before .before .before .before .args .book .now)) (c .before .before .before .before .before .before .before .before .before .before .before .before .before .before .before .before .before .before .before .args .evening .now) (c .before .before .before .before .before .before .before .before .before .before .before .before .before .before .before .before .before .before .before .args .next .now))
+returns c =
+    let args = c .before .before .before .before .before .before .before .before .before .before .before .before .before .before .before .before .before .before .before .args in
+    let put-positions = c .before .before .put-positions .ensures in
+    let put-members = c .before .before .before .before .before .before .put-members .ensures in
+    let put-contracts = c .before .before .before .before .before .before .before .before .before .before .put-contracts .ensures in
+    let put-head = c .before .before .before .before .before .before .before .before .before .before .before .before .before .before .put-head .ensures in
+    rw (put-positions, put-members, put-contracts, put-head) (next-parts (bookBy (args .h) (args .book .now)) (args .evening .now) (args .next .now))
 
 pub put-next-spec : {M : Type 1} → statement M
 put-next-spec =

@@ -26,10 +26,17 @@ position-at-requires : tie.Need-position-at-requires
 position-at-requires c κs = omega (arith, c .position-off .ensures, position-within (c .before .before .before .before .args .h) (c .before .before .before .before .args .m) (c .before .before .before .before .args .j) (c .before .before .before .before .pre .2) (c .before .before .before .before .pre .3), c .before .before .before .before .pre .0 .shaped .enough)
 
 position-after-requires : tie.Need-position-after-requires
-position-after-requires c κs = rw (c .position-at .ensures ∙ ap (positionAt (c .before .before .before .before .before .args .book .now)) (c .before .position-off .ensures)) (position-in (bookBy (c .before .before .before .before .before .args .h) (c .before .before .before .before .before .args .book .now)) (c .before .before .before .before .before .pre .0 .ranged) (c .before .before .before .before .before .args .m) (c .before .before .before .before .before .args .j) (c .before .before .before .before .before .pre .2) (c .before .before .before .before .before .pre .3))
+position-after-requires c κs =
+    let args = c .before .before .before .before .before .args in
+    let book = args .book .now in
+    let pre = c .before .before .before .before .before .pre in
+    rw (c .position-at .ensures ∙ ap (positionAt book) (c .before .position-off .ensures)) (position-in (bookBy (args .h) book) (pre .0 .ranged) (args .m) (args .j) (pre .2) (pre .3))
 
 put-position-requires : tie.Need-put-position-requires
-put-position-requires c κs = omega (arith, c .before .before .before .position-off .ensures, position-within (c .before .before .before .before .before .before .before .args .h) (c .before .before .before .before .before .before .before .args .m) (c .before .before .before .before .before .before .before .args .j) (c .before .before .before .before .before .before .before .pre .2) (c .before .before .before .before .before .before .before .pre .3), c .before .before .before .before .before .before .before .pre .1)
+put-position-requires c κs =
+    let args = c .before .before .before .before .before .before .before .args in
+    let pre = c .before .before .before .before .before .before .before .pre in
+    omega (arith, c .before .before .before .position-off .ensures, position-within (args .h) (args .m) (args .j) (pre .2) (pre .3), pre .1)
 
 same-length : tie.Need-same-length
 same-length c = search needs

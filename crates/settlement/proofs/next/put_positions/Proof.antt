@@ -36,7 +36,16 @@ loop-less : tie.Need-loop-less Inv-loop μ-loop
 loop-less c = omega arith
 
 loop-again : tie.Need-loop-again Inv-loop μ-loop
-loop-again c = (omega arith, omega arith, c .before .before .put-row .ensures ∙ ap (λ (x : List ℕ). sets x (positionsStart (c .before .before .before .before .before .before .before .before .before .args .h) + c .before .before .before .before .before .loop .m * ((c .before .before .before .before .before .before .before .before .before .args .h) .contracts * positionSize)) (positionsBytes (bookBy (c .before .before .before .before .before .before .before .before .before .args .h) (c .before .before .before .before .before .before .before .before .before .args .book .now)) (c .before .before .before .before .before .loop .m))) (c .before .before .before .before .before .loop .inv .2) ∙ sets-step (c .before .before .before .before .before .before .before .before .before .args .next .now) (positionsStart (c .before .before .before .before .before .before .before .before .before .args .h)) ((c .before .before .before .before .before .before .before .before .before .args .h) .contracts * positionSize) (positionsBytes (bookBy (c .before .before .before .before .before .before .before .before .before .args .h) (c .before .before .before .before .before .before .before .before .before .args .book .now))) (positions-size (bookBy (c .before .before .before .before .before .before .before .before .before .args .h) (c .before .before .before .before .before .before .before .before .before .args .book .now))) (c .before .before .before .before .before .loop .m))
+loop-again c =
+    let args = c .before .before .before .before .before .before .before .before .before .args in
+    let book = args .book .now in
+    let h = args .h in
+    let loop = c .before .before .before .before .before .loop in
+    let laid =
+    c .before .before .put-row .ensures
+    ∙ ap (λ (x : List ℕ). sets x (positionsStart h + loop .m * (h .contracts * positionSize)) (positionsBytes (bookBy h book) (loop .m))) (loop .inv .2)
+    ∙ sets-step (args .next .now) (positionsStart h) (h .contracts * positionSize) (positionsBytes (bookBy h book)) (positions-size (bookBy h book)) (loop .m) in
+    (omega arith, omega arith, laid)
 
 same-length : tie.Need-same-length Inv-loop μ-loop
 same-length c = omega arith

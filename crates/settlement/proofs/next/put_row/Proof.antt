@@ -24,7 +24,11 @@ abbrev μ-loop : tie.MeasureT-loop
 μ-loop book evening next₀ h m k j₀ next j = h .contracts - j
 
 loop-holds : tie.Need-loop-holds Inv-loop μ-loop
-loop-holds c = (omega arith, refl, ap (sets (c .before .before .before .args .next .now) (positionsStart (c .before .before .before .args .h) + (c .before .before .before .args .m) * ((c .before .before .before .args .h) .contracts * positionSize))) (sym (bytes-none (positionBytes (bookBy (c .before .before .before .args .h) (c .before .before .before .args .book .now)) (c .before .before .before .args .m)))))
+loop-holds c =
+    let args = c .before .before .before .args in
+    let h = args .h in
+    let m = args .m in
+    (omega arith, refl, ap (sets (args .next .now) (positionsStart h + m * (h .contracts * positionSize))) (sym (bytes-none (positionBytes (bookBy h (args .book .now)) m))))
 
 put-position-requires : tie.Need-put-position-requires Inv-loop μ-loop
 put-position-requires c κs = (c .before .before .before .before .before .before .pre .0, omega (arith, c .before .before .loop .inv .1, c .before .before .before .before .before .before .pre .1), c .before .before .before .before .before .before .pre .2, c .before .loop-test .taken)
@@ -37,14 +41,29 @@ loop-less c = omega arith
 
 loop-again : tie.Need-loop-again Inv-loop μ-loop
 unfolding positionOff
-loop-again c = (omega arith, omega arith, c .before .before .put-position .ensures ∙ ap (λ (x : List ℕ). sets x (positionOff (c .before .before .before .before .before .before .before .before .before .args .h) (c .before .before .before .before .before .before .before .before .before .args .m) (c .before .before .before .before .before .loop .j)) (positionBytes (bookBy (c .before .before .before .before .before .before .before .before .before .args .h) (c .before .before .before .before .before .before .before .before .before .args .book .now)) (c .before .before .before .before .before .before .before .before .before .args .m) (c .before .before .before .before .before .loop .j))) (c .before .before .before .before .before .loop .inv .2) ∙ sets-step (c .before .before .before .before .before .before .before .before .before .args .next .now) (positionsStart (c .before .before .before .before .before .before .before .before .before .args .h) + (c .before .before .before .before .before .before .before .before .before .args .m) * ((c .before .before .before .before .before .before .before .before .before .args .h) .contracts * positionSize)) positionSize (positionBytes (bookBy (c .before .before .before .before .before .before .before .before .before .args .h) (c .before .before .before .before .before .before .before .before .before .args .book .now)) (c .before .before .before .before .before .before .before .before .before .args .m)) (position-size (bookBy (c .before .before .before .before .before .before .before .before .before .args .h) (c .before .before .before .before .before .before .before .before .before .args .book .now)) (c .before .before .before .before .before .before .before .before .before .args .m)) (c .before .before .before .before .before .loop .j))
+loop-again c =
+    let args = c .before .before .before .before .before .before .before .before .before .args in
+    let book = args .book .now in
+    let h = args .h in
+    let m = args .m in
+    let loop = c .before .before .before .before .before .loop in
+    let laid =
+    c .before .before .put-position .ensures
+    ∙ ap (λ (x : List ℕ). sets x (positionOff h m (loop .j)) (positionBytes (bookBy h book) m (loop .j))) (loop .inv .2)
+    ∙ sets-step (args .next .now) (positionsStart h + m * (h .contracts * positionSize)) positionSize (positionBytes (bookBy h book) m) (position-size (bookBy h book) m) (loop .j) in
+    (omega arith, omega arith, laid)
 
 same-length : tie.Need-same-length Inv-loop μ-loop
 same-length c = omega arith
 
 returns : tie.Need-returns Inv-loop μ-loop
-returns c = let e : c .before .loop .j ≡ c .before .before .before .before .before .args .h .contracts = omega arith in
-    c .before .loop .inv .2 ∙ ap (λ (i : ℕ). sets (c .before .before .before .before .before .args .next .now) (positionsStart (c .before .before .before .before .before .args .h) + (c .before .before .before .before .before .args .m) * ((c .before .before .before .before .before .args .h) .contracts * positionSize)) (bytesTo (positionBytes (bookBy (c .before .before .before .before .before .args .h) (c .before .before .before .before .before .args .book .now)) (c .before .before .before .before .before .args .m)) i)) e
+returns c =
+    let args = c .before .before .before .before .before .args in
+    let h = args .h in
+    let m = args .m in
+    let loop = c .before .loop in
+    let e : loop .j ≡ h .contracts = omega arith in
+    loop .inv .2 ∙ ap (λ (i : ℕ). sets (args .next .now) (positionsStart h + m * (h .contracts * positionSize)) (bytesTo (positionBytes (bookBy h (args .book .now)) m) i)) e
 
 pub put-row-spec : {M : Type 1} → statement M
 put-row-spec =

@@ -29,7 +29,13 @@ same-length : tie.Need-same-length
 same-length c = search needs
 
 returns : tie.Need-returns
-returns c = rw (c .before .before .write-i643 .ensures, c .before .before .before .before .before .before .before .write-i642 .ensures, c .before .before .before .before .before .before .before .before .before .before .before .before .write-i64 .ensures, toZ-ofZ w64 (c .before .before .before .before .before .before .before .before .before .before .before .before .before .before .before .before .args .f .margin .0) (record { sfits = search needs }), toZ-ofZ w64 (c .before .before .before .before .before .before .before .before .before .before .before .before .before .before .before .before .args .f .usable .0) (record { sfits = search needs }), toZ-ofZ w64 (c .before .before .before .before .before .before .before .before .before .before .before .before .before .before .before .before .args .f .reserve .0) (record { sfits = search needs }))
+returns c =
+    let args = c .before .before .before .before .before .before .before .before .before .before .before .before .before .before .before .before .args in
+    let f = args .f in
+    let write-i643 = c .before .before .write-i643 .ensures in
+    let write-i642 = c .before .before .before .before .before .before .before .write-i642 .ensures in
+    let write-i64 = c .before .before .before .before .before .before .before .before .before .before .before .before .write-i64 .ensures in
+    rw (write-i643, write-i642, write-i64, toZ-ofZ w64 (f .margin .0) (record { sfits = search needs }), toZ-ofZ w64 (f .usable .0) (record { sfits = search needs }), toZ-ofZ w64 (f .reserve .0) (record { sfits = search needs }))
 
 pub put-figures-spec : {M : Type 1} → statement M
 put-figures-spec =

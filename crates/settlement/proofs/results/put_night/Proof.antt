@@ -20,7 +20,9 @@ same-length : tie.Need-same-length
 same-length c = search needs
 
 returns : tie.Need-returns
-returns c = rw (c .before .before .put-standing .ensures, c .before .before .before .before .before .before .put-figures .ensures, c .before .before .before .before .before .before .before .before .before .before .put-sums .ensures) (put-row (resultFields (c .before .before .before .before .before .before .before .before .before .before .before .before .before .before .args .t)) (c .before .before .before .before .before .before .before .before .before .before .before .before .before .before .args .results .now) (c .before .before .before .before .before .before .before .before .before .before .before .before .before .before .args .off) refl)
+returns c =
+    let args = c .before .before .before .before .before .before .before .before .before .before .before .before .before .before .args in
+    rw (c .before .before .put-standing .ensures, c .before .before .before .before .before .before .put-figures .ensures, c .before .before .before .before .before .before .before .before .before .before .put-sums .ensures) (put-row (resultFields (args .t)) (args .results .now) (args .off) refl)
 
 pub put-night-spec : {M : Type 1} → statement M
 put-night-spec =

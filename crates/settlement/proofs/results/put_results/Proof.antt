@@ -36,7 +36,20 @@ loop-less : tie.Need-loop-less Inv-loop μ-loop
 loop-less c = omega arith
 
 loop-again : tie.Need-loop-again Inv-loop μ-loop
-loop-again c = (omega arith, omega arith, c .before .before .put-result .ensures ∙ ap (λ (x : List ℕ). sets x (c .before .before .before .before .before .loop .m * resultSize) (resultRow (bookBy (c .before .before .before .before .before .before .before .before .before .args .h) (c .before .before .before .before .before .before .before .before .before .args .book .now)) (c .before .before .before .before .before .before .before .before .before .args .evening .now) (c .before .before .before .before .before .loop .m))) (c .before .before .before .before .before .loop .inv .2) ∙ ap (λ (o : ℕ). sets (sets (c .before .before .before .before .before .before .before .before .before .args .results .now) 0 (bytesTo (resultRow (bookBy (c .before .before .before .before .before .before .before .before .before .args .h) (c .before .before .before .before .before .before .before .before .before .args .book .now)) (c .before .before .before .before .before .before .before .before .before .args .evening .now)) (c .before .before .before .before .before .loop .m))) o (resultRow (bookBy (c .before .before .before .before .before .before .before .before .before .args .h) (c .before .before .before .before .before .before .before .before .before .args .book .now)) (c .before .before .before .before .before .before .before .before .before .args .evening .now) (c .before .before .before .before .before .loop .m))) (sym (zero-add (c .before .before .before .before .before .loop .m * resultSize))) ∙ sets-step (c .before .before .before .before .before .before .before .before .before .args .results .now) 0 resultSize (resultRow (bookBy (c .before .before .before .before .before .before .before .before .before .args .h) (c .before .before .before .before .before .before .before .before .before .args .book .now)) (c .before .before .before .before .before .before .before .before .before .args .evening .now)) (result-size (bookBy (c .before .before .before .before .before .before .before .before .before .args .h) (c .before .before .before .before .before .before .before .before .before .args .book .now)) (c .before .before .before .before .before .before .before .before .before .args .evening .now)) (c .before .before .before .before .before .loop .m))
+loop-again c =
+    let args = c .before .before .before .before .before .before .before .before .before .args in
+    let evening = args .evening .now in
+    let results = args .results .now in
+    let book = args .book .now in
+    let h = args .h in
+    let loop = c .before .before .before .before .before .loop in
+    let put-result = c .before .before .put-result .ensures in
+    let laid =
+    put-result
+    ∙ ap (λ (x : List ℕ). sets x (loop .m * resultSize) (resultRow (bookBy h book) evening (loop .m))) (loop .inv .2)
+    ∙ ap (λ (o : ℕ). sets (sets results 0 (bytesTo (resultRow (bookBy h book) evening) (loop .m))) o (resultRow (bookBy h book) evening (loop .m))) (sym (zero-add (loop .m * resultSize)))
+    ∙ sets-step results 0 resultSize (resultRow (bookBy h book) evening) (result-size (bookBy h book) evening) (loop .m) in
+    (omega arith, omega arith, laid)
 
 same-length : tie.Need-same-length Inv-loop μ-loop
 same-length c = omega arith

@@ -32,7 +32,13 @@ same-length : tie.Need-same-length
 same-length c = search needs
 
 returns : tie.Need-returns
-returns c = rw (c .before .before .write-u64 .ensures, c .before .before .before .before .before .before .before .write-i642 .ensures, c .before .before .before .before .before .before .before .before .before .before .before .before .write-i64 .ensures, toZ-ofZ w64 (c .before .before .before .before .before .before .before .before .before .before .before .before .before .before .before .before .args .t .withdrawable .0) (record { sfits = search (needs, c .before .before .before .before .before .before .before .before .before .before .before .before .before .struct-told .given .1) }), toZ-ofZ w64 (c .before .before .before .before .before .before .before .before .before .before .before .before .before .before .before .before .args .t .call .0) (record { sfits = search (needs, c .before .before .before .before .before .before .before .before .struct-told2 .given .1) }))
+returns c =
+    let args = c .before .before .before .before .before .before .before .before .before .before .before .before .before .before .before .before .args in
+    let t = args .t in
+    let write-u64 = c .before .before .write-u64 .ensures in
+    let write-i642 = c .before .before .before .before .before .before .before .write-i642 .ensures in
+    let write-i64 = c .before .before .before .before .before .before .before .before .before .before .before .before .write-i64 .ensures in
+    rw (write-u64, write-i642, write-i64, toZ-ofZ w64 (t .withdrawable .0) (record { sfits = search (needs, c .before .before .before .before .before .before .before .before .before .before .before .before .before .struct-told .given .1) }), toZ-ofZ w64 (t .call .0) (record { sfits = search (needs, c .before .before .before .before .before .before .before .before .struct-told2 .given .1) }))
 
 pub put-standing-spec : {M : Type 1} → statement M
 put-standing-spec =

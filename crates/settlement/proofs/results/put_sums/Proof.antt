@@ -29,7 +29,10 @@ same-length : tie.Need-same-length
 same-length c = search needs
 
 returns : tie.Need-returns
-returns c = rw (c .before .before .write-i642 .ensures, c .before .before .before .before .before .before .before .write-i64 .ensures, c .before .before .before .before .before .before .before .before .before .before .before .before .write-u64 .ensures, toZ-ofZ w64 (c .before .before .before .before .before .before .before .before .before .before .before .before .before .before .before .args .t .profit .0) (record { sfits = search needs }), toZ-ofZ w64 (c .before .before .before .before .before .before .before .before .before .before .before .before .before .before .before .args .t .fee .0) (record { sfits = search needs }))
+returns c =
+    let args = c .before .before .before .before .before .before .before .before .before .before .before .before .before .before .before .args in
+    let t = args .t in
+    rw (c .before .before .write-i642 .ensures, c .before .before .before .before .before .before .before .write-i64 .ensures, c .before .before .before .before .before .before .before .before .before .before .before .before .write-u64 .ensures, toZ-ofZ w64 (t .profit .0) (record { sfits = search needs }), toZ-ofZ w64 (t .fee .0) (record { sfits = search needs }))
 
 pub put-sums-spec : {M : Type 1} → statement M
 put-sums-spec =

@@ -37,9 +37,12 @@ discounted-requires : tie.Need-discounted-requires
 discounted-requires c κs = search needs
 
 figures-tonight-requires : tie.Need-figures-tonight-requires
-figures-tonight-requires c κs = let r = c .before .before .before .before .before .before .args .r in
-    let t = c .before .before .before .before .before .before .args .t in
-    rw (c .before .before .before .before .discounted .ensures) (subst (λ (x : Movements). FiguresTonightIn (r .figures) x (discountedOf (r .securities .market) (r .securities .discount)) (t .margin)) (sym (passed r t (c .before .before .before .before .before .before .pre .0) (c .before .before .before .before .before .before .pre .1))) (figures-asks r t (c .before .before .before .before .before .before .pre .0) (c .before .before .before .before .before .before .pre .1)))
+figures-tonight-requires c κs =
+    let args = c .before .before .before .before .before .before .args in
+    let pre = c .before .before .before .before .before .before .pre in
+    let r = args .r in
+    let t = args .t in
+    rw (c .before .before .before .before .discounted .ensures) (subst (λ (x : Movements). FiguresTonightIn (r .figures) x (discountedOf (r .securities .market) (r .securities .discount)) (t .margin)) (sym (passed r t (pre .0) (pre .1))) (figures-asks r t (pre .0) (pre .1)))
 
 returns : tie.Need-returns
 returns c = let r = c .before .before .before .before .before .before .before .args .r in

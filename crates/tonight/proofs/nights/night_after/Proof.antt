@@ -27,12 +27,15 @@ number-requires : tie.Need-number-requires
 number-requires c κs = search needs
 
 returns : tie.Need-returns
-returns c = let f = c .before .before .before .before .before .before .figures-after .ensures in
-    let kind = c .before .before .before .before .before .before .before .args .r .kind in
+returns c =
+    let args = c .before .before .before .before .before .before .before .args in
+    let pre = c .before .before .before .before .before .before .before .pre in
+    let f = c .before .before .before .before .before .before .figures-after .ensures in
+    let kind = args .r .kind in
     let withdrawable = c .before .before .withdrawable .ensures ∙ ap (withdrawableOf kind) f in
     let call = c .before .call .ensures ∙ ap (λ (x : Figures). callOf kind (x .reserve)) f in
     let standing = c .number .ensures ∙ ap numberOf (c .before .before .before .before .before .standing .ensures ∙ ap (λ (x : Figures). standingOf kind (x .reserve)) f) in
-    λ i. record { member = c .before .before .before .before .before .before .before .args .m; profit = record { 0 = back tt (c .before .before .before .before .before .before .before .pre .1 .profit) i }; fee = record { 0 = back tt (c .before .before .before .before .before .before .before .pre .1 .fee .within) i }; figures = f i; withdrawable = withdrawable i; call = call i; standing = standing i }
+    λ i. record { member = args .m; profit = record { 0 = back tt (pre .1 .profit) i }; fee = record { 0 = back tt (pre .1 .fee .within) i }; figures = f i; withdrawable = withdrawable i; call = call i; standing = standing i }
 
 pub night-after-spec : {M : Type 1} → statement M
 night-after-spec =

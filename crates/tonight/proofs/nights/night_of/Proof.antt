@@ -29,7 +29,13 @@ tally-over-requires : tie.Need-tally-over-requires
 tally-over-requires c κs = search needs
 
 night-after-requires : tie.Need-night-after-requires
-night-after-requires c κs = (rw (row c) (member-in (bookBy (c .before .before .before .before .before .args .h) (c .before .before .before .before .before .args .book .now)) (c .before .before .before .before .before .pre .0 .ranged) (c .before .before .before .before .before .args .m) (c .before .before .before .before .before .pre .1)), rw (c .tally-over .ensures) (tally-few (c .before .before .before .before .before .args .book .now) (c .before .before .before .before .before .args .evening .now) (c .before .before .before .before .before .args .h) (c .before .before .before .before .before .pre .0) (c .before .before .before .before .before .args .m) (c .before .before .before .before .before .pre .1) (c .before .before .before .before .before .args .h .contracts) (le-refl (c .before .before .before .before .before .args .h .contracts))))
+night-after-requires c κs =
+    let args = c .before .before .before .before .before .args in
+    let book = args .book .now in
+    let h = args .h in
+    let m = args .m in
+    let pre = c .before .before .before .before .before .pre in
+    (rw (row c) (member-in (bookBy h book) (pre .0 .ranged) m (pre .1)), rw (c .tally-over .ensures) (tally-few book (args .evening .now) h (pre .0) m (pre .1) (h .contracts) (le-refl (h .contracts))))
 
 returns : tie.Need-returns
 unfolding nightOf

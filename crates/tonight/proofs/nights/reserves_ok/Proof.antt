@@ -44,9 +44,14 @@ loop-less : tie.Need-loop-less Inv-loop μ-loop
 loop-less c = omega arith
 
 loop-again : tie.Need-loop-again Inv-loop μ-loop
-loop-again c = let e = ap (λ (x : Night). x .figures .reserve .0) (c .before .before .night-of .ensures) in
-    let r = back tt (in-eq e (night-in (c .before .before .before .before .before .before .before .args .book .now) (c .before .before .before .before .before .before .before .args .evening .now) (c .before .before .before .before .before .before .before .args .h) (c .before .before .before .before .before .before .before .pre) (c .before .before .before .before .loop .m) (c .before .before .before .loop-test .taken) .reserve-in)) ∙ e in
-    (omega arith, ap₂ (λ (x y : Bool). x && y) (c .before .before .before .before .loop .inv .1) (ap (λ (n : ℕ). leb n (10 ^ 15)) (c .size .ensures ∙ ap natAbs r)) ∙ sym (all-next (inRange (c .before .before .before .before .before .before .before .args .h) (c .before .before .before .before .before .before .before .args .book .now) (c .before .before .before .before .before .before .before .args .evening .now)) (c .before .before .before .before .loop .m)))
+loop-again c =
+    let args = c .before .before .before .before .before .before .before .args in
+    let evening = args .evening .now in
+    let book = args .book .now in
+    let h = args .h in
+    let e = ap (λ (x : Night). x .figures .reserve .0) (c .before .before .night-of .ensures) in
+    let r = back tt (in-eq e (night-in book evening h (c .before .before .before .before .before .before .before .pre) (c .before .before .before .before .loop .m) (c .before .before .before .loop-test .taken) .reserve-in)) ∙ e in
+    (omega arith, ap₂ (λ (x y : Bool). x && y) (c .before .before .before .before .loop .inv .1) (ap (λ (n : ℕ). leb n (10 ^ 15)) (c .size .ensures ∙ ap natAbs r)) ∙ sym (all-next (inRange h book evening) (c .before .before .before .before .loop .m)))
 
 returns : tie.Need-returns Inv-loop μ-loop
 unfolding reservesOk

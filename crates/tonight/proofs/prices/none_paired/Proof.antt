@@ -47,7 +47,11 @@ loop-less : tie.Need-loop-less Inv-loop μ-loop
 loop-less c = omega arith
 
 loop-again : tie.Need-loop-again Inv-loop μ-loop
-loop-again c = (omega arith, ap₂ (λ (x y : Bool). x && y) (c .before .before .before .before .loop .inv .1) (c .unpaired .ensures ∙ ap (λ (p : Position). unpaired p) (c .before .position-at .ensures ∙ ap (positionAt (c .before .before .before .before .before .before .args .book .now)) (c .before .before .position-off .ensures))) ∙ sym (all-next (noneAt (c .before .before .before .before .before .before .args .h) (c .before .before .before .before .before .before .args .book .now) (c .before .before .before .before .before .before .args .j)) (c .before .before .before .before .loop .m)))
+loop-again c =
+    let args = c .before .before .before .before .before .before .args in
+    let book = args .book .now in
+    let loop = c .before .before .before .before .loop in
+    (omega arith, ap₂ (λ (x y : Bool). x && y) (loop .inv .1) (c .unpaired .ensures ∙ ap (λ (p : Position). unpaired p) (c .before .position-at .ensures ∙ ap (positionAt book) (c .before .before .position-off .ensures))) ∙ sym (all-next (noneAt (args .h) book (args .j)) (loop .m)))
 
 returns : tie.Need-returns Inv-loop μ-loop
 unfolding nonePaired

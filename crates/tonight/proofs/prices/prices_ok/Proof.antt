@@ -43,8 +43,13 @@ loop-again c = (omega arith, ap₂ (λ (x y : Bool). x && y) (c .before .before 
 
 returns-2 : tie.Need-returns-2 Inv-loop μ-loop
 unfolding pricesOk
-returns-2 c = let e : c .before .loop .j ≡ c .before .before .before .before .before .args .h .contracts = omega arith in
-    rw (eq-eqb (length (c .before .before .before .before .before .args .prices .now)) (c .before .before .before .before .before .args .h .contracts * pairSize) (c .before .before .if1 .left)) (c .before .loop .inv .1 ∙ ap (allTo (pairOk (bookBy (c .before .before .before .before .before .args .h) (c .before .before .before .before .before .args .book .now)) (c .before .before .before .before .before .args .prices .now))) e)
+returns-2 c =
+    let args = c .before .before .before .before .before .args in
+    let prices = args .prices .now in
+    let h = args .h in
+    let loop = c .before .loop in
+    let e : loop .j ≡ h .contracts = omega arith in
+    rw (eq-eqb (length prices) (h .contracts * pairSize) (c .before .before .if1 .left)) (loop .inv .1 ∙ ap (allTo (pairOk (bookBy h (args .book .now)) prices)) e)
 
 pub prices-ok-spec : {M : Type 1} → statement M
 prices-ok-spec =

@@ -28,7 +28,9 @@ add-t7 : tie.Need-add-t7
 add-t7 c = fits (margin (c .before .before .before .before .before .before .before .before .before .before .before .before .pre)) tt
 
 returns : tie.Need-returns
-returns c = λ i. record { profit = record { 0 = reads (profit (c .before .before .before .before .before .before .before .before .before .before .before .before .pre)) tt i }; fee = record { 0 = reads (fee (c .before .before .before .before .before .before .before .before .before .before .before .before .pre)) tt i }; margin = record { 0 = reads (margin (c .before .before .before .before .before .before .before .before .before .before .before .before .pre)) tt i } }
+returns c =
+    let pre = c .before .before .before .before .before .before .before .before .before .before .before .before .pre in
+    λ i. record { profit = record { 0 = reads (profit (pre)) tt i }; fee = record { 0 = reads (fee (pre)) tt i }; margin = record { 0 = reads (margin (pre)) tt i } }
 
 pub add-tally-spec : {M : Type 1} → statement M
 add-tally-spec = tie.close (tie.spec add-t3 add-t5 add-t7 returns)

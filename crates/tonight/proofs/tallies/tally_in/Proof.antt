@@ -30,13 +30,19 @@ position-off-requires : tie.Need-position-off-requires
 position-off-requires c κs = search needs
 
 position-at-requires : tie.Need-position-at-requires
-position-at-requires c κs = omega (arith, c .position-off .ensures, position-within (c .before .before .before .before .before .args .h) (c .before .before .before .before .before .args .m) (c .before .before .before .before .before .args .j) (c .before .before .before .before .before .pre .1) (c .before .before .before .before .before .pre .2), c .before .before .before .before .before .pre .0 .shaped .enough)
+position-at-requires c κs =
+    let args = c .before .before .before .before .before .args in
+    let pre = c .before .before .before .before .before .pre in
+    omega (arith, c .position-off .ensures, position-within (args .h) (args .m) (args .j) (pre .1) (pre .2), pre .0 .shaped .enough)
 
 prices-at-requires : tie.Need-prices-at-requires
 prices-at-requires c κs = search needs
 
 contract-tally-requires : tie.Need-contract-tally-requires
-contract-tally-requires c κs = rw (c .prices-at .ensures, contract-is c, position-is c) (rows-in (c .before .before .before .before .before .before .before .args .book .now) (c .before .before .before .before .before .before .before .args .evening .now) (c .before .before .before .before .before .before .before .args .h) (c .before .before .before .before .before .before .before .pre .0) (c .before .before .before .before .before .before .before .args .m) (c .before .before .before .before .before .before .before .args .j) (c .before .before .before .before .before .before .before .pre .1) (c .before .before .before .before .before .before .before .pre .2))
+contract-tally-requires c κs =
+    let args = c .before .before .before .before .before .before .before .args in
+    let pre = c .before .before .before .before .before .before .before .pre in
+    rw (c .prices-at .ensures, contract-is c, position-is c) (rows-in (args .book .now) (args .evening .now) (args .h) (pre .0) (args .m) (args .j) (pre .1) (pre .2))
 
 returns : tie.Need-returns
 unfolding tallyIn

@@ -31,7 +31,14 @@ tally-in-requires : tie.Need-tally-in-requires Inv-loop μ-loop
 tally-in-requires c κs = (c .before .before .before .before .before .pre .0, c .before .before .before .before .before .pre .1, c .loop-test .taken)
 
 add-tally-requires : tie.Need-add-tally-requires Inv-loop μ-loop
-add-tally-requires c κs = (rw (c .before .before .loop .inv .1) (tally-few (c .before .before .before .before .before .before .args .book .now) (c .before .before .before .before .before .before .args .evening .now) (c .before .before .before .before .before .before .args .h) (c .before .before .before .before .before .before .pre .0) (c .before .before .before .before .before .before .args .m) (c .before .before .before .before .before .before .pre .1) (c .before .before .loop .j) (c .before .before .loop .inv .0)), rw (c .tally-in .ensures) (tally-at (c .before .before .before .before .before .before .args .book .now) (c .before .before .before .before .before .before .args .evening .now) (c .before .before .before .before .before .before .args .h) (c .before .before .before .before .before .before .pre .0) (c .before .before .before .before .before .before .args .m) (c .before .before .before .before .before .before .pre .1) (c .before .before .loop .j) (c .before .loop-test .taken)))
+add-tally-requires c κs =
+    let args = c .before .before .before .before .before .before .args in
+    let evening = args .evening .now in
+    let book = args .book .now in
+    let h = args .h in
+    let m = args .m in
+    let pre = c .before .before .before .before .before .before .pre in
+    (rw (c .before .before .loop .inv .1) (tally-few book evening h (pre .0) m (pre .1) (c .before .before .loop .j) (c .before .before .loop .inv .0)), rw (c .tally-in .ensures) (tally-at book evening h (pre .0) m (pre .1) (c .before .before .loop .j) (c .before .loop-test .taken)))
 
 add-j : tie.Need-add-j Inv-loop μ-loop
 add-j c = omega (arith, c .before .before .before .before .before .before .before .pre .0 .shaped .contracts, c .before .before .loop-test .taken)
@@ -40,7 +47,10 @@ loop-less : tie.Need-loop-less Inv-loop μ-loop
 loop-less c = omega arith
 
 loop-again : tie.Need-loop-again Inv-loop μ-loop
-loop-again c = (omega arith, c .add-tally .ensures ∙ (λ i. addTally (c .before .before .before .loop .inv .1 i) (c .before .tally-in .ensures i)) ∙ sym (tally-next (bookBy (c .before .before .before .before .before .before .before .args .h) (c .before .before .before .before .before .before .before .args .book .now)) (c .before .before .before .before .before .before .before .args .evening .now) (c .before .before .before .before .before .before .before .args .m) (c .before .before .before .loop .j)))
+loop-again c =
+    let args = c .before .before .before .before .before .before .before .args in
+    let loop = c .before .before .before .loop in
+    (omega arith, c .add-tally .ensures ∙ (λ i. addTally (loop .inv .1 i) (c .before .tally-in .ensures i)) ∙ sym (tally-next (bookBy (args .h) (args .book .now)) (args .evening .now) (args .m) (loop .j)))
 
 returns : tie.Need-returns Inv-loop μ-loop
 returns c = let e : c .before .loop .j ≡ c .before .before .before .before .before .args .h .contracts = omega arith in
