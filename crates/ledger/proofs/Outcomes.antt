@@ -3,6 +3,7 @@ use mathlib.Core.Path.{_≡_, refl, sym, ap, _∙_}
 use mathlib.Core.List.{List, [], _∷_}
 use Prim.Native.Nat.{ℕ, zero, suc}
 use Rattle.folds.specs.First.{onZero}
+use Rattle.folds.proofs.First.{on-refusal}
 use Rattle.order.specs.Lens as lens
 use Rattle.book.specs.declared.heads.Head.{Head}
 use Rattle.book.specs.declared.accounts.Place.{Place}
@@ -24,10 +25,6 @@ use Rattle.posting.proofs.Outcomes.{trade-lower, pairing-lower, lower-zero}
 use Rattle.ledger.specs.Puts.{oneAnswer, oneAfter, twoAnswer, twoAfter, saysTo, stepTo}
 
 -- ---- an account posted by itself
-
-on-refusal : {A : Type 0} (n : ℕ) (a b : A) → (n ≡ 0 → ⊥) → onZero n a b ≡ b
-on-refusal zero a b h = absurd (h refl)
-on-refusal (suc n) a b h = refl
 
 module _ (a : Account) (e : Entry) (r : Posted) (is : r ≡ postedOf a e) where
   pub answer-is : r .answer ≡ entryAnswer e a

@@ -5,14 +5,13 @@ use mathlib.Core.List.{List}
 use Prim.Native.Nat.{ℕ, _≤_, _<_}
 use native.Mathlib.Omega.{arith}
 use lib.ListN.{length}
-use Rattle.folds.specs.Tests.{between}
-use Rattle.folds.proofs.Tests.{and-right, and-both, between-low, each}
+use Rattle.folds.proofs.Tests.{and-both}
 use Rattle.book.specs.declared.heads.Head.{Head}
 use Rattle.book.specs.Layout.{bookLength}
 use Rattle.book.specs.Heads.{headAt}
 use Rattle.book.specs.Books.{bookBy, bookAt}
-use Rattle.validity.specs.Valid.{headTests, headOk, validRows, validBook}
-use Rattle.validity.proofs.Facts.{head-shaped, valid-head, valid-rows}
+use Rattle.validity.specs.Valid.{headOk, validRows, validBook}
+use Rattle.validity.proofs.Facts.{head-shaped, has-contract, valid-head, valid-rows}
 use Rattle.validity.proofs.AsFacts.{Rows, Balance, rows-of, balance-of, valid-of}
 
 pub record Whole (h : Head) (xs : List ℕ) : Type 0 where
@@ -34,7 +33,4 @@ pub room : {h : Head} {xs : List ℕ} → Whole h xs → bookLength h ≤ length
 room {h} {xs} w = omega (arith, head-shaped xs (w .sound) .enough, ap bookLength (w .head))
 
 pub some-contract : {h : Head} {xs : List ℕ} → Whole h xs → 0 < h .contracts
-unfolding headOk
-some-contract {h} {xs} w =
-    let t = and-right (between 1 32 (headAt xs .members)) (between 1 32 (headAt xs .contracts)) (each (headTests xs) (w .sound) 1) in
-    omega (arith, between-low 1 32 (headAt xs .contracts) t, ap (λ (g : Head). g .contracts) (w .head))
+some-contract {h} {xs} w = omega (arith, has-contract xs (w .sound), ap (λ (g : Head). g .contracts) (w .head))

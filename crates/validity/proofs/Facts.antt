@@ -14,7 +14,7 @@ use Rattle.numbers.specs.Range.{In}
 use Rattle.numbers.proofs.Linears.{le-true}
 use Rattle.numbers.proofs.Sums.{sum-has}
 use Rattle.folds.specs.Tests.{allTo, allOf, between}
-use Rattle.folds.proofs.Tests.{and-left, and-right, all-at, each, between-high}
+use Rattle.folds.proofs.Tests.{and-left, and-right, all-at, each, between-low, between-high}
 use Rattle.rules.specs.declared.units.Fen.{Fen}
 use Rattle.book.specs.declared.heads.Head.{Head}
 use Rattle.book.specs.declared.contracts.Contract.{Contract}
@@ -30,6 +30,14 @@ use Rattle.validity.specs.Valid.{headTests, headOk, countsOk, upTo, abou
 use Rattle.validity.specs.Totals.{Ranged, SideIn, PositionIn}
 
 -- ---- the head
+
+-- the first contract is there
+pub has-contract : (xs : List ℕ) → headOk xs ≡ true → 0 < headAt xs .contracts
+unfolding headOk
+has-contract xs e =
+    let counts = each (headTests xs) e 1 in
+    let k = and-right (between 1 32 (headAt xs .members)) (between 1 32 (headAt xs .contracts)) counts in
+    omega (arith, between-low 1 32 (headAt xs .contracts) k)
 
 pub head-shaped : (xs : List ℕ) → headOk xs ≡ true → Shaped xs (headAt xs)
 unfolding headOk
