@@ -21,17 +21,17 @@ use Rattle.posting.specs.declared.accounts.Entry.{Entry}
 use Rattle.posting.specs.declared.accounts.Posted.{Posted}
 use Rattle.posting.specs.Entries.{entryAnswer, entered, postedOf, lower}
 use Rattle.posting.specs.Answers.{accounts}
-use Rattle.posting.proofs.Outcomes.{trade-lower, pairing-lower, lower-zero}
+use Rattle.posting.proofs.Outcomes.{posted-answer, posted-account, trade-lower, pairing-lower, lower-zero}
 use Rattle.ledger.specs.Puts.{oneAnswer, oneAfter, twoAnswer, twoAfter, saysTo, stepTo}
 
 -- ---- an account posted by itself
 
 module _ (a : Account) (e : Entry) (r : Posted) (is : r ≡ postedOf a e) where
   pub answer-is : r .answer ≡ entryAnswer e a
-  answer-is = ap (λ (x : Posted). x .answer) is
+  answer-is = ap (λ (x : Posted). x .answer) is ∙ posted-answer a e
 
   pub account-is : entryAnswer e a ≡ 0 → r .account ≡ entered e a
-  account-is zeroed = ap (λ (x : Posted). x .account) is ∙ ap (λ (n : ℕ). onZero n (entered e a) a) zeroed
+  account-is zeroed = ap (λ (x : Posted). x .account) is ∙ posted-account a e zeroed
 
 -- what one account's posting gives at the bytes
 module _ (h : Head) (xs : List ℕ) (p : Place) (e : Entry) (r : Posted) (is : r ≡ postedOf (accountAt h xs p) e) where

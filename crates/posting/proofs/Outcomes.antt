@@ -1,5 +1,6 @@
 -- A refusal leaves the account as it stood, an accepted entry makes the account stated, and two accounts refuse by the lower number.
 use mathlib.Core.Path.{_≡_, refl, sym, ap, _∙_}
+use mathlib.Core.Logic.{_≢_}
 use mathlib.Core.Bool.{Bool, true, false, cond}
 use Prim.Native.Nat.{ℕ, zero, suc, _≤_, _<_}
 use native.Mathlib.Omega.{arith}
@@ -7,29 +8,36 @@ use lib.Dec.{leb}
 use borrow.Author.Tests.{not-false, le-leb, lt-leb}
 use mathlib.Core.List.{[], _∷_}
 use Rattle.folds.specs.First.{_gives_, firstOf, onZero}
-use Rattle.folds.proofs.First.{none-holds}
+use Rattle.folds.proofs.First.{none-holds, on-refusal}
 use Rattle.book.specs.declared.accounts.Account.{Account}
 use Rattle.posting.specs.Records.{Mark, Trade, Pairing}
 use Rattle.posting.specs.Fills.{Party, Buyer, Seller, Long, Short, wayOf, sideOn, enough}
 use Rattle.posting.specs.Postings.{full, barred, fewer, beyond, scarce, tradeAnswer, pairingAnswer}
-use Rattle.posting.specs.Entries.{Entry, Posted, entered, postedOf, Buys, Sells, Receives, Delivers, sideRules, sideAnswer, pairedAnswer, entryAnswer, lower}
+use Rattle.posting.specs.Entries.{Entry, Outcome, entered, decidedOf, outcomeNumber, outcomeAccount, postedOf, Buys, Sells, Receives, Delivers, sideRules, sideAnswer, pairedAnswer, entryAnswer, lower}
 
 -- an accepted side of a trade finds enough lots under its mark
 pub has-enough : (party : Party) (mark : Mark) (t : Trade) (a : Account) → sideAnswer party mark t a ≡ 0 → enough mark (t .lots .0) (sideOn (wayOf party mark) (a .position)) ≡ true
 unfolding sideAnswer
 has-enough party mark t a e = not-false (enough mark (t .lots .0) (sideOn (wayOf party mark) (a .position))) (none-holds (sideRules party mark t a) refl e 2)
 
--- a refusal leaves the account as it stood
-pub posted-refused : (a : Account) (e : Entry) (n : ℕ) → n ≡ entryAnswer e a → (n ≡ 0 → ⊥) → record { answer = n; account = a } ≡ postedOf a e
-posted-refused a e n is refused = λ i. record { answer = is i; account = sym (kept (entryAnswer e a) (λ z. refused (is ∙ z))) i }
-  where
-    kept : (m : ℕ) → (m ≡ 0 → ⊥) → onZero m (entered e a) a ≡ a
-    kept zero h = absurd (h refl)
-    kept (suc m) h = refl
+module _ (a : Account) (e : Entry) where
+  -- a refusal by its number, and an accepted entry by the account that it makes
+  pub decided-refused : entryAnswer e a ≢ 0 → Outcome.Refused (entryAnswer e a) ≡ decidedOf a e
+  decided-refused h = sym (on-refusal (entryAnswer e a) (Outcome.Done (entered e a)) (Outcome.Refused (entryAnswer e a)) h)
 
--- an accepted entry makes the account stated
-pub posted-done : (a : Account) (e : Entry) (b : Account) → b ≡ entered e a → entryAnswer e a ≡ 0 → record { answer = 0; account = b } ≡ postedOf a e
-posted-done a e b is zeroed = λ i. record { answer = sym zeroed i; account = (is ∙ sym (ap (λ (m : ℕ). onZero m (entered e a) a) zeroed)) i }
+  pub decided-done : entryAnswer e a ≡ 0 → Outcome.Done (entered e a) ≡ decidedOf a e
+  decided-done z = sym (ap (λ (n : ℕ). onZero n (Outcome.Done (entered e a)) (Outcome.Refused (entryAnswer e a))) z)
+
+  -- what was posted has the number of the first rule, and the account after the entry where there is none
+  pub posted-answer : postedOf a e .answer ≡ entryAnswer e a
+  posted-answer = by (entryAnswer e a)
+    where
+      by : (n : ℕ) → outcomeNumber (onZero n (Outcome.Done (entered e a)) (Outcome.Refused n)) ≡ n
+      by zero = refl
+      by (suc n) = refl
+
+  pub posted-account : entryAnswer e a ≡ 0 → postedOf a e .account ≡ entered e a
+  posted-account z = ap (outcomeAccount a) (sym (decided-done z))
 
 -- the first rule of two accounts is the lower of the accounts' own first rules: both have the same rules, in rising order
 four-lower : (x₁ y₁ x₂ y₂ x₃ y₃ x₄ y₄ : Bool)

@@ -10,6 +10,7 @@ use Rattle.posting.specs.Fills.{Party, Buyer, Seller, Way, Long, Short}
 use Rattle.posting.specs.Postings.{traded, pairedOn, deposited, withdrawn, pledged, full, barred, fewer, beyond, scarce, depositAnswer, withdrawalAnswer, pledgeAnswer}
 pub use Rattle.posting.specs.declared.accounts.Entry.{Entry}
 pub use Rattle.posting.specs.declared.accounts.Entry.the-variants.{Buys, Sells, Receives, Delivers, PaysIn, TakesOut, Pledges}
+pub use Rattle.posting.specs.declared.accounts.Outcome.{Outcome}
 pub use Rattle.posting.specs.declared.accounts.Posted.{Posted}
 
 -- 2 to 5 for one side of a trade
@@ -44,9 +45,24 @@ entered (PaysIn p) a = deposited p a
 entered (TakesOut p) a = withdrawn p a
 entered (Pledges p) a = pledged p a
 
--- a refusal leaves the account as it stood
+-- what is decided of the account: 01's number, or the account after the entry
+abbrev pub decidedOf : Account → Entry → Outcome
+decidedOf a e = onZero (entryAnswer e a) (Outcome.Done (entered e a)) (Outcome.Refused (entryAnswer e a))
+
+-- the document's number for each case, and the account as it stands then: a refusal leaves it as it stood
+abbrev pub outcomeNumber : Outcome → ℕ
+outcomeNumber (Outcome.Refused n) = n
+outcomeNumber (Outcome.Done b) = 0
+
+abbrev pub outcomeAccount : Account → Outcome → Account
+outcomeAccount a (Outcome.Refused n) = a
+outcomeAccount a (Outcome.Done b) = b
+
+abbrev pub postedBy : Account → Outcome → Posted
+postedBy a o = record { answer = outcomeNumber o; account = outcomeAccount a o }
+
 abbrev pub postedOf : Account → Entry → Posted
-postedOf a e = record { answer = entryAnswer e a; account = onZero (entryAnswer e a) (entered e a) a }
+postedOf a e = postedBy a (decidedOf a e)
 
 -- the first refusal of two accounts, by rising number
 abbrev pub lower : ℕ → ℕ → ℕ

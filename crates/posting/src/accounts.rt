@@ -16,6 +16,12 @@ pub enum Entry {
     Pledges(Pledge),
 }
 
+// What is decided of an account: the refusal number, or the account after the entry.
+pub enum Outcome {
+    Refused(u8),
+    Done(Account),
+}
+
 // The number, and the account as it stands then: as it stood, where the number is a refusal.
 pub struct Posted {
     pub answer: u8,

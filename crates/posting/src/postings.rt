@@ -1,5 +1,6 @@
 // What a record asks of one account that it names, decided by value: refused by number, or the account after it.
 use crate::accounts::Entry;
+use crate::accounts::Outcome;
 use crate::accounts::Party;
 use crate::accounts::Posted;
 use crate::accounts::Way;
@@ -21,7 +22,7 @@ ghost use Prim.Native.Nat.{_^_, _≤_};
 ghost use Rattle.numbers.specs.Range.{In};
 ghost use Rattle.posting.specs.Fills.{wayOf, sideOn, enough};
 ghost use Rattle.posting.specs.Postings.{counted, moved, traded, pairedOn, deposited, withdrawn, pledged, full, barred, above, fewer, beyond, scarce, depositAnswer, withdrawalAnswer, pledgeAnswer};
-ghost use Rattle.posting.specs.Entries.{sideAnswer, pairedAnswer, entryAnswer, entered, postedOf, lower};
+ghost use Rattle.posting.specs.Entries.{sideAnswer, pairedAnswer, entryAnswer, entered, decidedOf, postedOf, lower};
 ghost use Rattle.posting.specs.Ranges.{AccountIn, EntryIn, PostedIn};
 
 // The first rule that holds: its number, else what the rest says.
@@ -264,20 +265,31 @@ fn entered(a: Account, e: Entry) -> Account
     }
 }
 
+pub fn decided(a: Account, e: Entry) -> Outcome
+    requires { ⌜ PostedIn a e ⌝ }
+    ensures { λ r. ⌜ r ≡ decidedOf a e ⌝ }
+{
+    let n = answer_of(a, e);
+    if n != 0 {
+        return Outcome::Refused(n);
+    }
+    Outcome::Done(entered(a, e))
+}
+
+// The outcome is taken apart here, so that the thin posting has no branch.
 pub fn posting_of(a: Account, e: Entry) -> Posted
     requires { ⌜ PostedIn a e ⌝ }
     ensures { λ r. ⌜ r ≡ postedOf a e ⌝ }
 {
-    let n = answer_of(a, e);
-    if n != 0 {
-        return Posted {
+    match decided(a, e) {
+        Outcome::Refused(n) => Posted {
             answer: n,
             account: a,
-        };
-    }
-    Posted {
-        answer: 0,
-        account: entered(a, e),
+        },
+        Outcome::Done(b) => Posted {
+            answer: 0,
+            account: b,
+        },
     }
 }
 
