@@ -1,4 +1,6 @@
 // The library that others link: the exported functions, and nothing else. None asks anything of its caller.
+#![tactic(auto)]
+
 ghost use Rattle.std.specs.Prelude.{◌≡◌, length};
 ghost use Rattle.validity.specs.Valid.{check_answer};
 ghost use Rattle.posting.specs.Answers.{answer, after};

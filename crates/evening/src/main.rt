@@ -1,4 +1,6 @@
 // The evening program: reads a day file from standard input, posts its records in their order, settles, and prints the lines of what is refused and the sheet.
+#![tactic(auto)]
+
 mod slices;
 mod standard;
 

@@ -1,4 +1,6 @@
 // Day records posted to the bytes of a book: each named account is read, lent to its posting, and put back within one call on the one book.
+#![tactic(auto)]
+
 ghost use Rattle.std.specs.Prelude.{◌≡◌, true, ◌<◌};
 ghost use Rattle.book.specs.Heads.{head_at};
 ghost use Rattle.book.specs.Accounts.{place, Within};

@@ -1,4 +1,6 @@
 // Day records: read, decided by value over the accounts that they name, and put back.
+#![tactic(auto)]
+
 pub mod accounts;
 pub mod fills;
 pub mod lending;

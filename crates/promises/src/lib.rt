@@ -1,1 +1,3 @@
 // What the records of a day do to a book, as theorems: no code.
+#![tactic(auto)]
+

@@ -1,4 +1,6 @@
 // Evening settlement: a read-only pass answers the refusal number; on 0 a second pass writes the next book and the results.
+#![tactic(auto)]
+
 pub mod next;
 pub mod results;
 

@@ -1,4 +1,6 @@
 // Whether bytes are a valid book. Each part of the check is the definition's part of the same name.
+#![tactic(auto)]
+
 pub mod balances;
 pub mod heads;
 pub mod rows;
