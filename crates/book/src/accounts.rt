@@ -8,13 +8,13 @@ use crate::positions::Position;
 use crate::{members, positions};
 
 // A member and a contract, by their numbers.
-#[derive(Drop)]
+#[derive(Clone, Copy)]
 pub struct Place {
     pub member: usize,
     pub contract: usize,
 }
 
-#[derive(Drop)]
+#[derive(Clone, Copy)]
 pub struct Account {
     pub member: Member,
     pub position: Position,

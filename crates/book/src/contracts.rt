@@ -6,7 +6,7 @@ ghost use Rattle.book.specs.ContractRows.{contract_at, put_contract};
 use crate::layout;
 use rules::units::Price;
 
-#[derive(Drop)]
+#[derive(Clone, Copy)]
 pub struct Contract {
     pub last: Price,
     pub multiplier: u32,

@@ -6,14 +6,14 @@ ghost use Rattle.book.specs.Heads.{head_at, entry_at};
 use crate::layout;
 
 // How many members and contracts a book has.
-#[derive(Drop)]
+#[derive(Clone, Copy)]
 pub struct Head {
     pub members: usize,
     pub contracts: usize,
 }
 
 // One line of the table of contents.
-#[derive(Drop)]
+#[derive(Clone, Copy)]
 pub struct Entry {
     pub section: u32,
     pub size: usize,

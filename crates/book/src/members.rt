@@ -9,20 +9,20 @@ use crate::layout;
 use rules::members::MemberKind;
 use rules::units::{Fen, Figures};
 
-#[derive(Drop)]
+#[derive(Clone, Copy)]
 pub struct Securities {
     pub market: Fen,
     pub discount: u64,
 }
 
 // What came and went today.
-#[derive(Drop)]
+#[derive(Clone, Copy)]
 pub struct Day {
     pub deposits: Fen,
     pub withdrawals: Fen,
 }
 
-#[derive(Drop)]
+#[derive(Clone, Copy)]
 pub struct Member {
     pub kind: MemberKind,
     pub accepted: u32,

@@ -9,7 +9,7 @@ use crate::layout;
 use rules::units::{Fen, Lots};
 
 // The counts of one side, long or short.
-#[derive(Drop)]
+#[derive(Clone, Copy)]
 pub struct Side {
     pub opening: Lots,
     pub closed: Lots,
@@ -17,7 +17,7 @@ pub struct Side {
     pub paired: Lots,
 }
 
-#[derive(Drop)]
+#[derive(Clone, Copy)]
 pub struct Position {
     pub long: Side,
     pub short: Side,

@@ -2,14 +2,14 @@
 use rules::units::{Fen, Lots, Price};
 
 // The two marks of a record.
-#[derive(Drop)]
+#[derive(Clone, Copy)]
 pub struct Marks {
     pub first: u8,
     pub second: u8,
 }
 
 // The fields of 24 bytes, whatever they say.
-#[derive(Drop)]
+#[derive(Clone, Copy)]
 pub struct Record {
     pub kind: u8,
     pub contract: usize,
@@ -21,20 +21,20 @@ pub struct Record {
     pub b: u64,
 }
 
-#[derive(Drop)]
+#[derive(Clone, Copy)]
 pub enum Mark {
     Opens,
     ClosesOld,
     ClosesNew,
 }
 
-#[derive(Drop)]
+#[derive(Clone, Copy)]
 pub enum MarkRead {
     Known(Mark),
     Unknown,
 }
 
-#[derive(Drop)]
+#[derive(Clone, Copy)]
 pub struct Trade {
     pub contract: usize,
     pub buyer: usize,
@@ -45,7 +45,7 @@ pub struct Trade {
     pub lots: Lots,
 }
 
-#[derive(Drop)]
+#[derive(Clone, Copy)]
 pub struct Pairing {
     pub contract: usize,
     pub buyer: usize,
@@ -54,13 +54,13 @@ pub struct Pairing {
 }
 
 // A deposit or a withdrawal.
-#[derive(Drop)]
+#[derive(Clone, Copy)]
 pub struct Payment {
     pub member: usize,
     pub amount: Fen,
 }
 
-#[derive(Drop)]
+#[derive(Clone, Copy)]
 pub struct Pledge {
     pub member: usize,
     pub market: Fen,
@@ -68,7 +68,7 @@ pub struct Pledge {
 }
 
 // What a record asks for; nothing, where it is refused 1.
-#[derive(Drop)]
+#[derive(Clone, Copy)]
 pub enum Request {
     Trading(Trade),
     PairingUp(Pairing),

@@ -6,13 +6,13 @@ ghost use Rattle.rules.specs.Ranges.{reserve_most};
 
 use crate::units::Fen;
 
-#[derive(Drop)]
+#[derive(Clone, Copy)]
 pub enum MemberKind {
     Broker,
     Other,
 }
 
-#[derive(Drop)]
+#[derive(Clone, Copy)]
 pub enum Standing {
     MayOpen,
     NoOpening,

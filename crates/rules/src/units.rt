@@ -1,26 +1,26 @@
 // What the rules count in. Each is a type of its own, so that lots are never taken where fen are due.
 
 // Money: whole fen, signed.
-#[derive(Drop)]
+#[derive(Clone, Copy)]
 pub struct Fen(pub i64);
 
 // Goods.
-#[derive(Drop)]
+#[derive(Clone, Copy)]
 pub struct Lots(pub u32);
 
 // Fen per unit of goods.
-#[derive(Drop)]
+#[derive(Clone, Copy)]
 pub struct Price(pub u32);
 
 // Lots of one contract on its two sides: held, opening or paired.
-#[derive(Drop)]
+#[derive(Clone, Copy)]
 pub struct Sides {
     pub long: Lots,
     pub short: Lots,
 }
 
 // One contract's prices in an evening.
-#[derive(Drop)]
+#[derive(Clone, Copy)]
 pub struct Prices {
     pub last: Price,
     pub tonight: Price,
@@ -28,7 +28,7 @@ pub struct Prices {
 }
 
 // What is kept of a member's money from evening to evening.
-#[derive(Drop)]
+#[derive(Clone, Copy)]
 pub struct Figures {
     pub reserve: Fen,
     pub margin: Fen,
@@ -36,7 +36,7 @@ pub struct Figures {
 }
 
 // What moved a member's money in a day.
-#[derive(Drop)]
+#[derive(Clone, Copy)]
 pub struct Movements {
     pub profit: Fen,
     pub deposits: Fen,

@@ -11,7 +11,7 @@ use book::members::Member;
 use rules::units::{Fen, Figures, Movements};
 
 // What the sheet says of a member; margin, usable and reserve are its figures.
-#[derive(Drop)]
+#[derive(Clone, Copy)]
 pub struct Night {
     pub member: usize,
     pub profit: Fen,

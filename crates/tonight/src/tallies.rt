@@ -14,7 +14,7 @@ use book::positions::{Position, Side};
 use rules::units::{Fen, Lots, Prices, Sides};
 
 // Profit or loss, fee and margin: in one contract, or over several.
-#[derive(Drop)]
+#[derive(Clone, Copy)]
 pub struct Tally {
     pub profit: Fen,
     pub fee: Fen,

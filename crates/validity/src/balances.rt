@@ -10,14 +10,14 @@ use book::heads::Head;
 use book::positions::{Position, Side};
 
 // The lots of one contract on one side, over some members.
-#[derive(Drop)]
+#[derive(Clone, Copy)]
 pub struct SideTotals {
     pub opening: u64,
     pub held: u64,
     pub paired: u64,
 }
 
-#[derive(Drop)]
+#[derive(Clone, Copy)]
 pub struct Totals {
     pub long: SideTotals,
     pub short: SideTotals,
