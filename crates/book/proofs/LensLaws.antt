@@ -1,18 +1,17 @@
 -- The lens laws: an account put back reads back, all else stays, and accounts of different members may be put back in either order.
-use mathlib.Core.Path.{◌≡◌, refl, sym, ap, ◌∙◌}
-use mathlib.Core.Logic.{◌≢◌, ◌⊎◌, inl, inr}
+use mathlib.Core.Path.{◌≡◌, sym, ap, ◌∙◌}
+use mathlib.Core.Logic.{◌≢◌, ◌⊎◌, inl}
 use mathlib.Core.List.{List}
 use Prim.Native.Nat.{ℕ, ◌+◌, ◌≤◌, ◌<◌}
 use native.Mathlib.Omega.{arith}
 use lib.ListN.{length}
-use Rattle.wire.specs.LittleEndian.{number_at, Apart, before}
+use Rattle.wire.specs.LittleEndian.{Apart}
 use Rattle.wire.proofs.Places.{apart_sym}
-use Rattle.order.specs.Lens.{Lens, Laws}
 use Rattle.book.specs.Layout.{Head, head_size, contract_size, member_size, position_size, contract_off, member_off, position_off, book_length, kind_at}
 use Rattle.book.specs.Heads.{head_at}
 use Rattle.book.specs.ContractRows.{contract_at}
-use Rattle.book.specs.Members.{Member, member_at, put_member, kind_number, kind_number_at}
-use Rattle.book.specs.Positions.{Position, position_at, put_position}
+use Rattle.book.specs.Members.{member_at, put_member, kind_number, kind_number_at}
+use Rattle.book.specs.Positions.{position_at, put_position}
 use Rattle.book.specs.Accounts.{Place, Account, account_at, put_account, Within, Far}
 use Rattle.book.proofs.Contents.{same_head}
 use Rattle.book.proofs.Places.{member_within, position_within, head_member, head_position, contract_member, contract_position, members_apart, member_position, rows_apart, positions_apart}

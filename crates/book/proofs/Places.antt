@@ -1,12 +1,11 @@
 -- Where rows lie: each within the book, and any two apart.
-use mathlib.Core.Path.{◌≡◌, refl, ap}
-use mathlib.Core.Logic.{◌≢◌, ◌⊎◌, inl, inr, ⊎_elim}
-use Prim.Native.Nat.{ℕ, suc, ◌+◌, ◌*◌, ◌≤◌, ◌<◌}
+use mathlib.Core.Path.{◌≡◌}
+use mathlib.Core.Logic.{◌≢◌, ◌⊎◌, ⊎_elim}
+use Prim.Native.Nat.{ℕ, ◌+◌, ◌*◌, ◌≤◌, ◌<◌}
 use native.Mathlib.Decide.{dec_le, ℕ_discrete}
 use native.Mathlib.Nat.{mul-le-mul, mul-le-mul_right, suc-mul, le_refl}
 use native.Mathlib.Omega.{arith}
 use Rattle.wire.specs.LittleEndian.{Apart, before, behind}
-use Rattle.wire.proofs.Places.{apart_sym}
 use Rattle.book.specs.Layout.{Head, head_size, contract_size, member_size, position_size, contract_off, member_off, position_off, book_length, longest_book}
 
 -- ---- within the book

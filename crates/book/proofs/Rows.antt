@@ -19,16 +19,16 @@ use Rattle.rules.specs.declared.units.Fen.{Fen}
 use Rattle.rules.specs.declared.units.Figures.{Figures}
 use Rattle.rules.specs.declared.members.MemberKind.{MemberKind}
 use Rattle.rules.specs.declared.members.MemberKind.TheVariants.{Broker, Other}
-use Rattle.wire.specs.LittleEndian.{number_at, signed_at, Apart}
+use Rattle.wire.specs.LittleEndian.{number_at, Apart}
 use Rattle.wire.proofs.Places.{apart_sym, apart_part}
 use Rattle.folds.specs.Tests.{between}
-use Rattle.folds.specs.Rows.{Field, row_bytes, widths, dense}
+use Rattle.folds.specs.Rows.{Field, row_bytes, widths}
 use Rattle.folds.proofs.Tests.{between_low, between_high}
 use Rattle.folds.proofs.Rows.{length_row, row_back}
 use Rattle.folds.proofs.Laid.{number_stays, sets_sets}
 use Rattle.book.specs.Layout.{contract_size, member_size, position_size, last_at, multiplier_at, rate_at, fee_at, delivery_at, contract_zero_at, kind_at, accepted_at, reserve_at, margin_at, usable_at, market_at, discount_at, deposits_at, withdrawals_at, long_at, short_at, opening_at, closed_at, new_at, paired_at, cash_at, traded_at, position_zero_at}
 use Rattle.book.specs.ContractRows.{Contract, contract_at, contract_fields, put_contract}
-use Rattle.book.specs.Members.{Member, Securities, Day, kind_of, kind_number, kind_number_at, figures_at, securities_at, day_at, member_at, member_fields, put_member}
+use Rattle.book.specs.Members.{Member, kind_of, kind_number, kind_number_at, figures_at, securities_at, day_at, member_at, member_fields, put_member}
 use Rattle.book.specs.Positions.{Side, Position, side_at, position_at, position_fields, put_position}
 
 -- the numbers in the size bytes from o on are the same in both

@@ -16,6 +16,7 @@ pub struct Contract {
     pub zero: u32,
 }
 
+#[tactic(auto, unfolding(crate::specs::Layout::contract_off))]
 pub fn contract_off(j: usize) -> usize
     requires { j ≤ 32 }
     ensures { result ≡ contract_off j }
@@ -23,6 +24,7 @@ pub fn contract_off(j: usize) -> usize
     layout::HEAD + j * layout::CONTRACT
 }
 
+#[tactic(auto, unfolding(crate::specs::ContractRows::contract_at))]
 pub fn contract_at(s: &[u8], off: usize) -> Contract
     requires { off + contract_size ≤ length s.now }
     ensures { result ≡ contract_at s.now off }

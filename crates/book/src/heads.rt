@@ -20,6 +20,7 @@ pub struct Entry {
     pub start: usize,
 }
 
+#[tactic(auto, unfolding(crate::specs::Heads::head_at))]
 pub fn head_at(s: &[u8]) -> Head
     requires { head_size ≤ length s.now }
     ensures { result ≡ head_at s.now }
@@ -29,6 +30,7 @@ pub fn head_at(s: &[u8]) -> Head
     Head { members, contracts }
 }
 
+#[tactic(auto, unfolding(crate::specs::Heads::entry_at))]
 pub fn entry_at(s: &[u8], off: usize) -> Entry
     requires { off + entry_size ≤ length s.now }
     ensures { result ≡ entry_at s.now off }

@@ -31,6 +31,7 @@ pub struct Member {
     pub day: Day,
 }
 
+#[tactic(auto, unfolding(crate::specs::Layout::member_off))]
 pub fn member_off(h: Head, m: usize) -> usize
     requires { (h.contracts ≤ 32) × (m ≤ 32) }
     ensures { result ≡ member_off h m }
@@ -58,6 +59,7 @@ fn kind_number(kind: MemberKind) -> u32
     }
 }
 
+#[tactic(auto, unfolding(crate::specs::Members::figures_at))]
 fn figures_at(s: &[u8], off: usize) -> Figures
     requires { off + member_size ≤ length s.now }
     ensures { result ≡ figures_at s.now off }
@@ -69,6 +71,7 @@ fn figures_at(s: &[u8], off: usize) -> Figures
     }
 }
 
+#[tactic(auto, unfolding(crate::specs::Members::securities_at))]
 fn securities_at(s: &[u8], off: usize) -> Securities
     requires { off + member_size ≤ length s.now }
     ensures { result ≡ securities_at s.now off }
@@ -79,6 +82,7 @@ fn securities_at(s: &[u8], off: usize) -> Securities
     }
 }
 
+#[tactic(auto, unfolding(crate::specs::Members::day_at))]
 fn day_at(s: &[u8], off: usize) -> Day
     requires { off + member_size ≤ length s.now }
     ensures { result ≡ day_at s.now off }
@@ -89,6 +93,7 @@ fn day_at(s: &[u8], off: usize) -> Day
     }
 }
 
+#[tactic(auto, unfolding(crate::specs::Members::member_at))]
 pub fn member_at(s: &[u8], off: usize) -> Member
     requires { off + member_size ≤ length s.now }
     ensures { result ≡ member_at s.now off }

@@ -26,6 +26,7 @@ pub struct Position {
     pub zero: u32,
 }
 
+#[tactic(auto, unfolding(crate::specs::Layout::position_off))]
 pub fn position_off(h: Head, m: usize, j: usize) -> usize
     requires { (h.members ≤ 32) × (h.contracts ≤ 32) × (m ≤ 32) × (j ≤ 32) }
     ensures { result ≡ position_off h m j }
@@ -34,6 +35,7 @@ pub fn position_off(h: Head, m: usize, j: usize) -> usize
     start + m * (h.contracts * layout::POSITION) + j * layout::POSITION
 }
 
+#[tactic(auto, unfolding(crate::specs::Positions::side_at))]
 fn side_at(s: &[u8], off: usize) -> Side
     requires { off + paired_at + 4 ≤ length s.now }
     ensures { result ≡ side_at s.now off }
@@ -46,6 +48,7 @@ fn side_at(s: &[u8], off: usize) -> Side
     }
 }
 
+#[tactic(auto, unfolding(crate::specs::Positions::position_at))]
 pub fn position_at(s: &[u8], off: usize) -> Position
     requires { off + position_size ≤ length s.now }
     ensures { result ≡ position_at s.now off }
