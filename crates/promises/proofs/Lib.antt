@@ -19,6 +19,7 @@ pub mod Example
 pub mod OrderExample
 pub mod ProfitExample
 pub mod EveningOfRecords
+pub mod SheetProfit
 pub mod ProfitOnTheSheet
 pub mod NextDay
 pub mod Promises

@@ -1,27 +1,21 @@
 -- The profit that settlement writes is article 31's over the day's accepted records, by every pairing.
 use Prim.Native.Nat.{ℕ, ◌<◌}
-use mathlib.Core.Path.{◌≡◌, refl, sym, ap, ◌∙◌, subst}
+use mathlib.Core.Path.{◌≡◌, sym, ap, ◌∙◌, subst}
 use mathlib.Core.Bool.{true}
 use mathlib.Core.List.{List}
 use lib.ListN.{length}
 use Rattle.rules.specs.declared.units.Fen.{Fen}
 use Rattle.book.specs.declared.heads.Head.{Head}
 use Rattle.book.specs.Heads.{head_at}
-use Rattle.book.specs.Books.{book_at}
 use Rattle.validity.specs.Opening.{opening_book}
 use Rattle.tonight.specs.Prices.{tonight_at, delivery_at}
-use Rattle.tonight.specs.Night.{tally_in, tally_to, night_of}
 use Rattle.settlement.specs.Settle.{settle_answer}
 use Rattle.morning.proofs.Settled.{profit_back}
 use Rattle.promises.specs.Runs.{end_of}
-use Rattle.promises.specs.ByArticle.{ByArticle, profit_on, written_profit}
+use Rattle.promises.specs.ByArticle.{ByArticle, written_profit}
 use Rattle.promises.proofs.Runs.{run_counts}
+use Rattle.promises.proofs.SheetProfit.{sheet_profit}
 use Rattle.promises.proofs.ProfitOfRecords.{the_profit}
-
--- settlement's definition, on any book
-pub sheet_profit : (book prices : List ℕ) (m : ℕ) → (night_of (book_at book) prices m).profit ≡ profit_on book (tonight_at prices) (delivery_at prices) m
-unfolding night_of tally_to tally_in
-sheet_profit book prices m = refl
 
 pub profit_on_the_sheet : (book : List ℕ) (records : List (List ℕ)) (prices next results : List ℕ) (m : ℕ) → opening_book book ≡ true → m < (head_at book).members
     → settle_answer (end_of book records) prices (length next) (length results) ≡ 0
