@@ -1,3 +1,5 @@
 pub mod Sides
 pub mod Outcomes
+pub mod Thin
+pub mod Lender
 pub mod Requests
