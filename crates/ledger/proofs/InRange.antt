@@ -3,13 +3,12 @@ use mathlib.Core.Path.{◌≡◌, sym, ap, subst}
 use mathlib.Core.Bool.{true}
 use mathlib.Core.List.{List}
 use Prim.{tt}
-use Prim.Native.Nat.{ℕ, ◌+◌, ◌*◌, ◌^◌, ◌≤◌, ◌<◌}
+use Prim.Native.Nat.{ℕ, ◌<◌}
 use native.Mathlib.Omega.{arith}
 use lib.Dec.{lit≤}
 use Rattle.numbers.proofs.Ranges.{in_weaken}
 use Rattle.book.specs.declared.heads.Head.{Head}
 use Rattle.book.specs.declared.accounts.Place.{Place}
-use Rattle.book.specs.declared.accounts.Account.{Account}
 use Rattle.book.specs.Heads.{head_at}
 use Rattle.book.specs.Books.{Book, book_at}
 use Rattle.book.specs.Accounts.{account_at, Shaped, Within}

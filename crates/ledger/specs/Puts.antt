@@ -4,7 +4,6 @@ use Rattle.std.specs.Prelude.{ℕ, List}
 use Rattle.order.specs.Lens as lens
 use Rattle.book.specs.declared.heads.Head.{Head}
 use Rattle.book.specs.declared.accounts.Place.{Place}
-use Rattle.book.specs.declared.accounts.Account.{Account}
 use Rattle.book.specs.Accounts.{account_at, put_account}
 use Rattle.posting.specs.declared.records.Request.{Request}
 use Rattle.posting.specs.declared.records.Request.TheVariants.{Trading, PairingUp, Depositing, Withdrawing, Pledging, Nothing}

@@ -1,5 +1,5 @@
 -- 01, Day records and Refusal numbers: what each request makes of the accounts that it names, and by which number it is refused.
-use Rattle.std.specs.Prelude.{ℕ, ◌+◌, Bool, false, not, ◌&&◌, List, [], ◌∷◌, leb, ◌+ℤ◌, ◌-ℤ◌}
+use Rattle.std.specs.Prelude.{ℕ, ◌+◌, Bool, false, not, List, [], ◌∷◌, leb, ◌+ℤ◌, ◌-ℤ◌}
 use Rattle.std.specs.Int.Signed.{lt_z}
 use Rattle.folds.specs.First.{Rule, ◌gives◌, first_of, on_zero}
 use Rattle.order.specs.Lens.{Posting}

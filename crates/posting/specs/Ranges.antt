@@ -1,6 +1,6 @@
 -- 01, The book and Day records: within what ranges the records and the accounts of a valid book are posted.
 use Prim.{Unit}
-use Rattle.std.specs.Prelude.{ℕ, ◌*◌, ◌^◌, ◌≤◌, ◌<◌, ◌≢◌}
+use Rattle.std.specs.Prelude.{◌*◌, ◌^◌, ◌≤◌, ◌<◌, ◌≢◌}
 use Rattle.numbers.specs.Range.{In}
 use Rattle.rules.specs.Ranges.{FiguresIn}
 use Rattle.book.specs.declared.heads.Head.{Head}

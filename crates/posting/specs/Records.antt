@@ -1,5 +1,5 @@
 -- 01, Day records: the 24 bytes, the table of kinds, and whom a record names.
-use Rattle.std.specs.Prelude.{ℕ, ◌+◌, ◌^◌, Bool, cond, not, ◌&&◌, List, [], ◌∷◌, leb, ltb, eqb, pos, length, get_or}
+use Rattle.std.specs.Prelude.{ℕ, ◌^◌, Bool, cond, not, ◌&&◌, List, [], ◌∷◌, leb, ltb, eqb, pos, length, get_or}
 use Rattle.wire.specs.LittleEndian.{number_at}
 use Rattle.folds.specs.Tests.{all_of, between}
 use Rattle.rules.specs.Units.{fen, lots, price}

@@ -83,6 +83,7 @@ fn scarce(way: Way, p: Pairing, a: Account) -> bool
 }
 
 // The rules of one side of a trade.
+#[tactic(auto, unfolding(crate::specs::Entries::side_answer))]
 fn side_answer(party: Party, mark: Mark, t: Trade, a: Account) -> u8
     requires { AccountIn a × (t.lots.0 ≤ 10_000) }
     ensures { result ≡ side_answer party mark t a }
@@ -94,6 +95,7 @@ fn side_answer(party: Party, mark: Mark, t: Trade, a: Account) -> u8
 }
 
 // The rules of one side of a pairing.
+#[tactic(auto, unfolding(crate::specs::Entries::paired_answer))]
 fn pairing_answer(way: Way, p: Pairing, a: Account) -> u8
     requires { AccountIn a × (p.lots.0 ≤ 10_000) }
     ensures { result ≡ paired_answer way p a }
@@ -101,18 +103,21 @@ fn pairing_answer(way: Way, p: Pairing, a: Account) -> u8
     first(full(a), 2, first(scarce(way, p, a), 7, 0))
 }
 
+#[tactic(auto, unfolding(crate::specs::Postings::deposit_answer))]
 fn deposit_answer(p: Payment, a: Account) -> u8
     ensures { result ≡ deposit_answer p a }
 {
     first(full(a), 2, 0)
 }
 
+#[tactic(auto, unfolding(crate::specs::Postings::pledge_answer))]
 fn pledge_answer(p: Pledge, a: Account) -> u8
     ensures { result ≡ pledge_answer p a }
 {
     first(full(a), 2, 0)
 }
 
+#[tactic(auto, unfolding(crate::specs::Postings::withdrawal_answer))]
 fn withdrawal_answer(p: Payment, a: Account) -> u8
     requires { AccountIn a }
     ensures { result ≡ withdrawal_answer p a }

@@ -7,6 +7,7 @@ use crate::records::{Mark, MarkRead, Marks, Pairing, Payment, Pledge, Record, Re
 use book::heads::Head;
 use rules::units::{Fen, Lots, Price};
 
+#[tactic(auto, unfolding(crate::specs::Records::record_at))]
 fn record_at(r: &[u8]) -> Record
     requires { length r.now ≡ record_size }
     ensures { result ≡ record_at r.now }
@@ -110,6 +111,7 @@ fn trade_by(first: MarkRead, second: MarkRead, q: Record) -> Request
     })
 }
 
+#[tactic(auto, unfolding(crate::specs::Records::read_trade))]
 fn read_trade(h: Head, q: Record) -> Request
     ensures { result ≡ read_trade h q }
 {
@@ -121,6 +123,7 @@ fn read_trade(h: Head, q: Record) -> Request
     trade_by(first, second, q)
 }
 
+#[tactic(auto, unfolding(crate::specs::Records::read_pairing))]
 fn read_pairing(h: Head, q: Record) -> Request
     ensures { result ≡ read_pairing h q }
 {
@@ -145,6 +148,7 @@ fn payment_of(q: Record) -> Payment
     }
 }
 
+#[tactic(auto, unfolding(crate::specs::Records::read_deposit))]
 fn read_deposit(h: Head, q: Record) -> Request
     ensures { result ≡ read_deposit h q }
 {
@@ -154,6 +158,7 @@ fn read_deposit(h: Head, q: Record) -> Request
     Request::Depositing(payment_of(q))
 }
 
+#[tactic(auto, unfolding(crate::specs::Records::read_withdrawal))]
 fn read_withdrawal(h: Head, q: Record) -> Request
     ensures { result ≡ read_withdrawal h q }
 {
@@ -163,6 +168,7 @@ fn read_withdrawal(h: Head, q: Record) -> Request
     Request::Withdrawing(payment_of(q))
 }
 
+#[tactic(auto, unfolding(crate::specs::Records::read_pledge))]
 fn read_pledge(h: Head, q: Record) -> Request
     ensures { result ≡ read_pledge h q }
 {
@@ -176,6 +182,7 @@ fn read_pledge(h: Head, q: Record) -> Request
     })
 }
 
+#[tactic(auto, unfolding(crate::specs::Records::read_kind))]
 fn read_kind(h: Head, q: Record) -> Request
     ensures { result ≡ read_kind h q }
 {
@@ -190,6 +197,7 @@ fn read_kind(h: Head, q: Record) -> Request
     }
 }
 
+#[tactic(auto, unfolding(crate::specs::Records::request_of))]
 pub fn request_of(h: Head, r: &[u8]) -> Request
     ensures { result ≡ request_of h r.now }
 {

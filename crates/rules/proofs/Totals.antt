@@ -1,7 +1,7 @@
 -- A total of amounts, each from 0 up, is from 0 up: for sums over contracts.
 use Prim.Native.Nat.{ℕ, zero, suc, ◌*◌, ◌≤◌, ◌<◌}
 use native.Mathlib.Omega.{arith}
-use lib.IntN.{ℤ, pos, ◌+ℤ◌}
+use lib.IntN.{ℤ, pos}
 use lib.Signed.{◌≤ℤ◌, ≤ℤ_refl}
 use Rattle.numbers.specs.Fold.{fold_to}
 use Rattle.numbers.specs.Sum.{total_to}

@@ -1,5 +1,5 @@
 -- 01, Refusal numbers and Evening settlement: the answer, and what is lent, afterwards.
-use Rattle.std.specs.Prelude.{ℕ, ◌*◌, Bool, not, List, [], ◌∷◌, ltb, length}
+use Rattle.std.specs.Prelude.{ℕ, ◌*◌, not, List, [], ◌∷◌, ltb, length}
 use Rattle.folds.specs.First.{Rule, ◌gives◌, first_of, on_zero}
 use Rattle.folds.specs.Laid.{over}
 use Rattle.book.specs.Layout.{book_length}

@@ -6,7 +6,7 @@ use Rattle.rules.specs.Ranges.{Amount, PricesIn}
 use Rattle.book.specs.declared.heads.Head.{Head}
 use Rattle.book.specs.declared.contracts.Contract.{Contract}
 use Rattle.book.specs.declared.positions.Position.{Position}
-use Rattle.book.specs.Books.{Book, book_by}
+use Rattle.book.specs.Books.{book_by}
 use Rattle.book.specs.Accounts.{Shaped}
 use Rattle.validity.specs.Totals.{Ranged, PositionIn}
 use Rattle.validity.specs.InRange.{ContractIn}

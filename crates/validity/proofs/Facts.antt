@@ -1,24 +1,17 @@
 -- What the parts of a valid book say of each row and each field.
-use mathlib.Core.Path.{◌≡◌, refl, sym, ◌∙◌}
-use mathlib.Core.Bool.{Bool, true, false, ◌&&◌}
+use mathlib.Core.Path.{◌≡◌, refl}
+use mathlib.Core.Bool.{true, ◌&&◌}
 use mathlib.Core.List.{List, [], ◌∷◌}
-use Prim.Native.Nat.{ℕ, ◌+◌, ◌*◌, ◌^◌, ◌≤◌, ◌<◌}
-use native.Mathlib.Nat.{mul-le-mul_left, le_trans}
+use Prim.Native.Nat.{ℕ, ◌*◌, ◌≤◌, ◌<◌}
 use native.Mathlib.Omega.{arith}
 use borrow.Author.Tests.{leb-true, eqb-true}
-use lib.Dec.{leb, eqb}
+use lib.Dec.{leb}
 use lib.IntN.{ℤ, pos, negsuc, nat_abs}
-use lib.Signed.{◌≤ℤ◌, le_z}
+use lib.Signed.{le_z}
 use lib.ListN.{length}
-use Rattle.numbers.specs.Range.{In}
-use Rattle.numbers.proofs.Linears.{le_true}
 use Rattle.numbers.proofs.Sums.{sum_has}
-use Rattle.folds.specs.Tests.{all_to, all_of, between}
+use Rattle.folds.specs.Tests.{all_of, between}
 use Rattle.folds.proofs.Tests.{and_left, and_right, all_at, each, between_low, between_high}
-use Rattle.rules.specs.declared.units.Fen.{Fen}
-use Rattle.book.specs.declared.heads.Head.{Head}
-use Rattle.book.specs.declared.contracts.Contract.{Contract}
-use Rattle.book.specs.declared.members.Member.{Member}
 use Rattle.book.specs.declared.positions.Side.{Side}
 use Rattle.book.specs.declared.positions.Position.{Position}
 use Rattle.book.specs.Layout.{head_size, book_length}
@@ -26,7 +19,7 @@ use Rattle.book.specs.Heads.{head_at, total_of}
 use Rattle.book.specs.Positions.{held_of}
 use Rattle.book.specs.Books.{Book, book_at}
 use Rattle.book.specs.Accounts.{Shaped}
-use Rattle.validity.specs.Valid.{head_tests, head_ok, counts_ok, up_to, about_zero, contract_tests, member_tests, side_tests, position_tests, contract_rows, member_row, member_rows, position_row, position_rows, rows_ok, traded_of, traded_ok, balance_tests, balanced, valid_rows, valid_book}
+use Rattle.validity.specs.Valid.{head_tests, head_ok, contract_tests, member_tests, side_tests, position_tests, contract_rows, member_row, member_rows, position_row, position_rows, rows_ok, traded_of, traded_ok, balanced, valid_rows, valid_book}
 use Rattle.validity.specs.Totals.{Ranged, SideIn, PositionIn}
 
 -- ---- the head

@@ -1,10 +1,7 @@
 -- The fields of a row in its range fit their bytes.
-use mathlib.Core.Path.{◌≡◌}
 use Prim.{tt}
 use Prim.Native.Nat.{◌*◌, ◌^◌, ◌≤◌}
 use native.Mathlib.Omega.{arith}
-use mir.Syntax.{w64}
-use mir.Val.{SFits}
 use Rattle.numbers.specs.Range.{In}
 use Rattle.numbers.proofs.Ranges.{in_weaken, in_sfits}
 use Rattle.book.specs.declared.contracts.Contract.{Contract}

@@ -1,7 +1,7 @@
 -- The tests of a contract's row, a member's and a position's, as facts and back.
 use mathlib.Core.Path.{◌≡◌}
 use mathlib.Core.Bool.{Bool, true, ◌&&◌}
-use Prim.Native.Nat.{ℕ, ◌*◌, ◌^◌, ◌≤◌, ◌<◌, zero-le}
+use Prim.Native.Nat.{ℕ, ◌*◌, ◌^◌, ◌<◌, zero-le}
 use native.Mathlib.Omega.{arith}
 use borrow.Author.Tests.{leb-true, eqb-true, le-leb, eq-eqb}
 use lib.Dec.{leb}

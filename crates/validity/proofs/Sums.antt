@@ -1,19 +1,15 @@
 -- A contract's sums, row by row.
-use mathlib.Core.Path.{◌≡◌, refl, sym, ◌∙◌}
-use mathlib.Core.List.{List}
-use Prim.Native.Nat.{ℕ, ◌+◌, ◌*◌, ◌^◌, ◌≤◌, ◌<◌}
-use native.Mathlib.Nat.{le_trans, mul-le-mul_right}
+use mathlib.Core.Path.{◌≡◌}
+use Prim.Native.Nat.{ℕ, ◌+◌, ◌≤◌, ◌<◌}
+use native.Mathlib.Nat.{le_trans}
 use native.Mathlib.Omega.{arith}
-use lib.IntN.{ℤ, pos}
-use Rattle.numbers.specs.Range.{In}
+use lib.IntN.{ℤ}
 use Rattle.numbers.proofs.Sums.{sum_none, sum_next, sum_most, total_none, total_next, in_total_most}
 use Rattle.rules.specs.declared.units.Sides.{Sides}
-use Rattle.book.specs.declared.positions.Side.{Side}
 use Rattle.book.specs.declared.positions.Position.{Position}
-use Rattle.book.specs.Positions.{held_of, opening_of, held_sides, paired_of}
+use Rattle.book.specs.Positions.{opening_of, held_sides, paired_of}
 use Rattle.book.specs.Books.{Book}
-use Rattle.validity.specs.Valid.{longs_to, shorts_to, cash_to}
-use Rattle.validity.specs.Totals.{Ranged, SideIn, PositionIn, SideFew, TotalsFew, Totals, add_row, no_totals, totals_to}
+use Rattle.validity.specs.Totals.{Ranged, PositionIn, TotalsFew, add_row, no_totals, totals_to}
 use Rattle.validity.proofs.Facts.{position_in}
 
 module _ (b : Book) (j : ℕ) where

@@ -1,5 +1,5 @@
 -- 01, The book: when bytes are a valid book, in named parts, in the document's order.
-use Rattle.std.specs.Prelude.{ℕ, ◌+◌, ◌*◌, ◌^◌, ◌≤◌, Bool, not, ◌&&◌, List, [], ◌∷◌, leb, eqb, ℤ, pos, nat_abs, length}
+use Rattle.std.specs.Prelude.{ℕ, ◌*◌, ◌^◌, Bool, not, ◌&&◌, List, [], ◌∷◌, leb, eqb, ℤ, pos, nat_abs, length}
 use Rattle.std.specs.Int.Signed.{le_z}
 use Rattle.numbers.specs.Sum.{sum_to, total_to}
 use Rattle.folds.specs.First.{◌gives◌, first_of}
