@@ -1,5 +1,5 @@
 -- An evening that is answered 0: what is known of it, and that a member's profit or loss reads back from the results' bytes.
-use mathlib.Core.Path.{◌≡◌, refl, sym, ap, ◌∙◌}
+use mathlib.Core.Path.{◌≡◌, refl, sym, ◌∙◌}
 use mathlib.Core.Bool.{true}
 use mathlib.Core.List.{List}
 use Prim.{tt}
@@ -11,7 +11,7 @@ use lib.Dec.{lit<}
 use lib.ListN.{length}
 use lib.Seq.{sets, length-sets}
 use mir.Syntax.{w64}
-use mir.Val.{SFits, to_z}
+use mir.Val.{SFits}
 use Rattle.wire.specs.LittleEndian.{number_at, signed_at}
 use Rattle.numbers.proofs.Ranges.{in_sfits}
 use Rattle.folds.specs.Rows.{widths}

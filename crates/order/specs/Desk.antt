@@ -1,5 +1,5 @@
 -- 01, demand 3: a small desk, to show that what the theorem asks for can be met: accounts that hold a sum each, and one counter of all that was moved.
-use Rattle.std.specs.Prelude.{◌≡◌, cond, ℕ, ◌+◌, ◌-◌, leb, get_or, set}
+use Rattle.std.specs.Prelude.{cond, ℕ, ◌+◌, ◌-◌, leb, get_or, set}
 use mathlib.Core.List.{List, [], ◌∷◌, Memᴰ}
 use Rattle.order.specs.Lens.{Posting, Lens}
 

@@ -1,5 +1,5 @@
 -- One account of a book put back: what it changes, and what that does to the book's rows and sums.
-use mathlib.Core.Path.{◌≡◌, refl, sym, ap, ap₂, ◌∙◌, subst}
+use mathlib.Core.Path.{◌≡◌, sym, ap, ap₂, ◌∙◌, subst}
 use mathlib.Core.Logic.{◌≢◌, ◌⊎◌, inl, inr}
 use mathlib.Core.Bool.{true}
 use mathlib.Core.List.{List}

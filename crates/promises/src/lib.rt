@@ -1,3 +1,2 @@
 // What the records of a day do to a book, as theorems: no code.
 #![tactic(auto)]
-
