@@ -1,7 +1,7 @@
 /*
  * The clearing library: futures of one exchange, one day at a time.
  *
- * Link target/staticlib/libclearing.a, which `rt staticlib clearing` builds for
+ * Link target/staticlib/libclearing.a, which `scripts/library` builds for
  * x86-64. The library needs no other, not even C's.
  *
  * Memory. All memory is the caller's. A slice passes as a pointer to its first

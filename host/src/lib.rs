@@ -1,9 +1,9 @@
 //! Safe functions over the clearing library.
 //!
-//! The library is proved and written in Rattle; `rt staticlib clearing` builds
-//! it as `target/staticlib/libclearing.a`, which this package links. The
-//! functions take slices of bytes, as the book, the records and the prices are
-//! laid out, and answer with a number:
+//! The library is proved and written in Rattle; `scripts/library` builds it as
+//! `target/staticlib/libclearing.a`, which this package links. The functions
+//! take slices of bytes, as the book, the records and the prices are laid out,
+//! and answer with a number:
 //!
 //! | no. | given exactly when |
 //! |---|---|
@@ -29,8 +29,6 @@
 
 #[cfg(feature = "tools")]
 pub mod compare;
-#[cfg(all(feature = "tools", emulated))]
-pub mod emulated;
 
 mod exported {
     //! The library's own functions. Each slice passes as a pointer and a length.

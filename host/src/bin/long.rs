@@ -18,8 +18,8 @@ seeds FIRST to LAST. `fields` checks books of that size with each of their field
 in turn at and beside each of its bounds. `full` posts the fullest day, with so
 many records of each member.
 
-Compared is the library that this program links; with `archive` it is the archive
-itself, which another processor than x86-64 reaches through the emulator.";
+Compared is the library that this program links, which is the archive: with the
+word `archive` or without it.";
 
 fn main() -> ExitCode {
     let arguments: Vec<String> = std::env::args().skip(1).collect();

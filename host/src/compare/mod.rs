@@ -93,13 +93,9 @@ impl Library for Second {
     }
 }
 
-/// The archive itself: linked where a program of this machine can link it, and
-/// else under the emulator.
+/// The archive itself, which this package links.
 pub fn archive() -> Box<dyn Library> {
-    #[cfg(emulated)]
-    return Box::new(crate::emulated::Emulated::start());
-    #[cfg(not(emulated))]
-    return Box::new(Linked);
+    Box::new(Linked)
 }
 
 /// Makes a comparison of each of the libraries, and panics at a difference.
@@ -112,14 +108,7 @@ pub fn all_same(compare: impl Fn(&mut dyn Library) -> Tally) -> Vec<(&'static st
     libraries().into_iter().map(compared).collect()
 }
 
-/// All there is to compare, by name: what this package links, and the archive
-/// where that is another.
+/// All there is to compare, by name.
 pub fn libraries() -> Vec<(&'static str, Box<dyn Library>)> {
-    #[cfg(emulated)]
-    return vec![
-        ("the archive, emulated", archive()),
-        ("the library for this machine", Box::new(Linked)),
-    ];
-    #[cfg(not(emulated))]
-    return vec![("the archive", archive())];
+    vec![("the archive", archive())]
 }
