@@ -29,6 +29,8 @@
 
 #[cfg(feature = "tools")]
 pub mod compare;
+#[cfg(feature = "tools")]
+pub mod worker;
 
 mod exported {
     //! The library's own functions. Each slice passes as a pointer and a length.

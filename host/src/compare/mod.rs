@@ -15,6 +15,8 @@ mod tally;
 pub use lent::Lent;
 pub use tally::{Tally, DESCRIBED};
 
+use crate::worker::Worker;
+
 /// What a library answered; or, where there is no answer or it cannot count,
 /// why not.
 pub type Answer = Result<u8, String>;
@@ -108,7 +110,11 @@ pub fn all_same(compare: impl Fn(&mut dyn Library) -> Tally) -> Vec<(&'static st
     libraries().into_iter().map(compared).collect()
 }
 
-/// All there is to compare, by name.
+/// All there is to compare, by name: the archive as this package links it, and
+/// in a process of its own.
 pub fn libraries() -> Vec<(&'static str, Box<dyn Library>)> {
-    vec![("the archive", archive())]
+    vec![
+        ("the archive", archive()),
+        ("the archive, in the worker", Box::new(Worker::start())),
+    ]
 }
