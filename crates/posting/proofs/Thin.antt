@@ -1,4 +1,6 @@
 -- One law for every thin posting: what a `&mut Account` posting with this MIR does, for any covered function g that computes f.
+-- Today's compiler puts the account into a local of its own before it stores it, so `post` has one statement more than this MIR, and is
+-- proved without this law.
 -- Assumes nothing.
 use mathlib.Core.Path.{◌≡◌, refl, ap}
 use Prim.Native.Nat.{ℕ, ◌<◌, ◌^◌}

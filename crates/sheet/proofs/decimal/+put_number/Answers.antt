@@ -4,19 +4,19 @@ use Rattle.sheet.proofs.Decimals.{decimal_small, decimal_large, small_length, la
 use Rattle.sheet.proofs.decimal.+put_number.Goals as goal
 
 pub bounds-buffer-at : goal.bounds-buffer-at
-bounds-buffer-at t c = omega (arith, small_length c.args.n c.if-n-lt10.true)
+bounds-buffer-at t c = omega (arith, small_length c.args.n (omega arith))
 
 pub put_number-last-requires : goal.put_number-last-requires
-put_number-last-requires t c = (omega arith, omega (arith, large_length c.args.n c.if-n-lt10.false))
+put_number-last-requires t c = (omega arith, omega (arith, large_length c.args.n (omega arith)))
 
 pub bounds-buffer-last : goal.bounds-buffer-last
-bounds-buffer-last t c = omega (arith, large_length c.args.n c.if-n-lt10.false, c.put_number-last.ensures.place)
+bounds-buffer-last t c = omega (arith, large_length c.args.n (omega arith), c.put_number-last.ensures.place)
 
-pub overflow_add-result-else-n-lt10 : goal.overflow_add-result-else-n-lt10
-overflow_add-result-else-n-lt10 t c = omega (arith, large_length c.args.n c.if-n-lt10.false, c.put_number-last.ensures.place)
+pub overflow_add-result-else-one_digit : goal.overflow_add-result-else-one_digit
+overflow_add-result-else-one_digit t c = omega (arith, large_length c.args.n (omega arith), c.put_number-last.ensures.place)
 
-pub returns-then-n-lt10 : goal.returns-then-n-lt10
-returns-then-n-lt10 t c = put_same (sym (decimal_small c.args.n c.if-n-lt10.true)) (put_one c.args.buffer.now c.args.at _)
+pub returns-then-one_digit : goal.returns-then-one_digit
+returns-then-one_digit t c = put_same (sym (decimal_small c.args.n (omega arith))) (put_one c.args.buffer.now c.args.at _)
 
-pub returns-else-n-lt10 : goal.returns-else-n-lt10
-returns-else-n-lt10 t c = put_same (sym (decimal_large c.args.n c.if-n-lt10.false)) (put_byte c.put_number-last.ensures _)
+pub returns-else-one_digit : goal.returns-else-one_digit
+returns-else-one_digit t c = put_same (sym (decimal_large c.args.n (omega arith))) (put_byte c.put_number-last.ensures _)
