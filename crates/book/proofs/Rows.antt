@@ -5,11 +5,11 @@ use mathlib.Core.Bool.{Bool, true, false, cond}
 use mathlib.Core.List.{List}
 use Prim.{tt}
 use Prim.Native.Nat.{ℕ, ◌+◌, ◌^◌, ◌%◌, ◌≤◌, ◌<◌}
-use native.Mathlib.Nat.{add_assoc, mod-eq_of_lt}
+use native.Mathlib.Nat.{zero-add, add_assoc, mod-eq_of_lt}
 use native.Mathlib.Omega.{arith}
 use borrow.Author.Tests.{eqb-true, eqb-false}
 use lib.Dec.{eqb, lit<}
-use lib.ListN.{length}
+use lib.ListN.{length, take, drop}
 use lib.Seq.{sets, length-sets}
 use mir.Syntax.{w64}
 use mir.Val.{SFits, to_z, of_z}
@@ -21,6 +21,7 @@ use Rattle.rules.specs.declared.members.MemberKind.{MemberKind}
 use Rattle.rules.specs.declared.members.MemberKind.TheVariants.{Broker, Other}
 use Rattle.wire.specs.LittleEndian.{number_at, Apart}
 use Rattle.wire.proofs.Places.{apart_sym, apart_part}
+use Rattle.wire.proofs.Numbers.{number_part}
 use Rattle.folds.specs.Tests.{between}
 use Rattle.folds.specs.Rows.{Field, row_bytes, widths}
 use Rattle.folds.proofs.Tests.{between_low, between_high}
@@ -31,50 +32,78 @@ use Rattle.book.specs.ContractRows.{Contract, contract_at, contract_fields, put_
 use Rattle.book.specs.Members.{Member, kind_of, kind_number, kind_number_at, figures_at, securities_at, day_at, member_at, member_fields, put_member}
 use Rattle.book.specs.Positions.{Side, Position, side_at, position_at, position_fields, put_position}
 
+-- the numbers in the size bytes from a on in ys are those from b on in xs
+abbrev pub Alike : List ℕ → ℕ → List ℕ → ℕ → ℕ → Type 0
+Alike ys a xs b size = (at w : ℕ) → at + w ≤ size → number_at ys (a + at) w ≡ number_at xs (b + at) w
+
 -- the numbers in the size bytes from o on are the same in both
 abbrev pub Same : List ℕ → List ℕ → ℕ → ℕ → Type 0
-Same ys xs o size = (at w : ℕ) → at + w ≤ size → number_at ys (o + at) w ≡ number_at xs (o + at) w
+Same ys xs o size = Alike ys o xs o size
+
+-- a row read apart from the bytes before and behind it
+row_alike : (xs : List ℕ) (off size : ℕ) → Alike (take size (drop off xs)) 0 xs off size
+row_alike xs off size at w l = rw (zero-add at) (number_part xs off size at w l)
 
 -- ---- rows whose bytes are the same
 
-pub same_contract : (ys xs : List ℕ) (o : ℕ) → Same ys xs o contract_size → contract_at ys o ≡ contract_at xs o
+alike_contract : (ys xs : List ℕ) (a b : ℕ) → Alike ys a xs b contract_size → contract_at ys a ≡ contract_at xs b
 unfolding contract_at
-same_contract ys xs o s =
+alike_contract ys xs a b s =
     rw (s last_at 4 (omega arith), s multiplier_at 4 (omega arith), s rate_at 4 (omega arith), s fee_at 4 (omega arith), s delivery_at 4 (omega arith), s contract_zero_at 4 (omega arith))
 
-same_figures : (ys xs : List ℕ) (o : ℕ) → Same ys xs o member_size → figures_at ys o ≡ figures_at xs o
+alike_figures : (ys xs : List ℕ) (a b : ℕ) → Alike ys a xs b member_size → figures_at ys a ≡ figures_at xs b
 unfolding figures_at
-same_figures ys xs o s = rw (s reserve_at 8 (omega arith), s margin_at 8 (omega arith), s usable_at 8 (omega arith))
+alike_figures ys xs a b s = rw (s reserve_at 8 (omega arith), s margin_at 8 (omega arith), s usable_at 8 (omega arith))
 
-same_securities : (ys xs : List ℕ) (o : ℕ) → Same ys xs o member_size → securities_at ys o ≡ securities_at xs o
+alike_securities : (ys xs : List ℕ) (a b : ℕ) → Alike ys a xs b member_size → securities_at ys a ≡ securities_at xs b
 unfolding securities_at
-same_securities ys xs o s = rw (s market_at 8 (omega arith), s discount_at 8 (omega arith))
+alike_securities ys xs a b s = rw (s market_at 8 (omega arith), s discount_at 8 (omega arith))
 
-same_day : (ys xs : List ℕ) (o : ℕ) → Same ys xs o member_size → day_at ys o ≡ day_at xs o
+alike_day : (ys xs : List ℕ) (a b : ℕ) → Alike ys a xs b member_size → day_at ys a ≡ day_at xs b
 unfolding day_at
-same_day ys xs o s = rw (s deposits_at 8 (omega arith), s withdrawals_at 8 (omega arith))
+alike_day ys xs a b s = rw (s deposits_at 8 (omega arith), s withdrawals_at 8 (omega arith))
 
-pub same_member : (ys xs : List ℕ) (o : ℕ) → Same ys xs o member_size → member_at ys o ≡ member_at xs o
+alike_member : (ys xs : List ℕ) (a b : ℕ) → Alike ys a xs b member_size → member_at ys a ≡ member_at xs b
 unfolding member_at
-same_member ys xs o s =
-    rw (s kind_at 4 (omega arith), s accepted_at 4 (omega arith), same_figures ys xs o s, same_securities ys xs o s, same_day ys xs o s)
+alike_member ys xs a b s =
+    rw (s kind_at 4 (omega arith), s accepted_at 4 (omega arith), alike_figures ys xs a b s, alike_securities ys xs a b s, alike_day ys xs a b s)
 
-same_side : (ys xs : List ℕ) (o side : ℕ) → side ≤ short_at → Same ys xs o position_size → side_at ys (o + side) ≡ side_at xs (o + side)
+alike_side : (ys xs : List ℕ) (a b side : ℕ) → side ≤ short_at → Alike ys a xs b position_size → side_at ys (a + side) ≡ side_at xs (b + side)
 unfolding side_at
-same_side ys xs o side l s = λ i. record {
+alike_side ys xs a b side l s = λ i. record {
   opening = record { 0 = at opening_at (omega arith) i };
   closed = record { 0 = at closed_at (omega arith) i };
   new = record { 0 = at new_at (omega arith) i };
   paired = record { 0 = at paired_at (omega arith) i };
 }
   where
-    at : (n : ℕ) → side + n + 4 ≤ position_size → number_at ys (o + side + n) 4 ≡ number_at xs (o + side + n) 4
-    at n h = let e : o + side + n ≡ o + (side + n) = omega arith in rw e (s (side + n) 4 h)
+    at : (n : ℕ) → side + n + 4 ≤ position_size → number_at ys (a + side + n) 4 ≡ number_at xs (b + side + n) 4
+    at n h = rw (add_assoc a side n, add_assoc b side n) (s (side + n) 4 h)
+
+alike_position : (ys xs : List ℕ) (a b : ℕ) → Alike ys a xs b position_size → position_at ys a ≡ position_at xs b
+unfolding position_at
+alike_position ys xs a b s =
+    rw (alike_side ys xs a b long_at (omega arith) s, alike_side ys xs a b short_at (omega arith) s, s cash_at 8 (omega arith), s traded_at 4 (omega arith), s position_zero_at 4 (omega arith))
+
+pub same_contract : (ys xs : List ℕ) (o : ℕ) → Same ys xs o contract_size → contract_at ys o ≡ contract_at xs o
+same_contract ys xs o = alike_contract ys xs o o
+
+pub same_member : (ys xs : List ℕ) (o : ℕ) → Same ys xs o member_size → member_at ys o ≡ member_at xs o
+same_member ys xs o = alike_member ys xs o o
 
 pub same_position : (ys xs : List ℕ) (o : ℕ) → Same ys xs o position_size → position_at ys o ≡ position_at xs o
-unfolding position_at
-same_position ys xs o s =
-    rw (same_side ys xs o long_at (omega arith) s, same_side ys xs o short_at (omega arith) s, s cash_at 8 (omega arith), s traded_at 4 (omega arith), s position_zero_at 4 (omega arith))
+same_position ys xs o = alike_position ys xs o o
+
+-- ---- a row by itself
+
+pub contract_alone : (xs : List ℕ) (off : ℕ) → contract_at (take contract_size (drop off xs)) 0 ≡ contract_at xs off
+contract_alone xs off = alike_contract (take contract_size (drop off xs)) xs 0 off (row_alike xs off contract_size)
+
+pub member_alone : (xs : List ℕ) (off : ℕ) → member_at (take member_size (drop off xs)) 0 ≡ member_at xs off
+member_alone xs off = alike_member (take member_size (drop off xs)) xs 0 off (row_alike xs off member_size)
+
+pub position_alone : (xs : List ℕ) (off : ℕ) → position_at (take position_size (drop off xs)) 0 ≡ position_at xs off
+position_alone xs off = alike_position (take position_size (drop off xs)) xs 0 off (row_alike xs off position_size)
 
 -- ---- what lies apart from a row that is laid down
 

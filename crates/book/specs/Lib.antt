@@ -6,3 +6,4 @@ pub mod Members
 pub mod Positions
 pub mod Books
 pub mod Accounts
+pub mod Rows

@@ -10,6 +10,7 @@ use Rattle.rules.specs.declared.units.Figures.{Figures}
 use Rattle.rules.specs.Units.{fen}
 use Rattle.rules.specs.declared.members.MemberKind.{MemberKind}
 use Rattle.rules.specs.declared.members.MemberKind.TheVariants.{Broker, Other}
+pub use Rattle.rules.specs.Members.{kind_number}
 use Rattle.book.specs.Layout.{kind_at, accepted_at, reserve_at, margin_at, usable_at, market_at, discount_at, deposits_at, withdrawals_at}
 pub use Rattle.book.specs.declared.members.Securities.{Securities}
 pub use Rattle.book.specs.declared.members.Day.{Day}
@@ -18,10 +19,6 @@ pub use Rattle.book.specs.declared.members.Member.{Member}
 -- 1 broker, 2 other
 abbrev pub kind_of : ℕ → MemberKind
 kind_of n = cond (eqb n 1) Broker Other
-
-abbrev pub kind_number : MemberKind → ℕ
-kind_number Broker = 1
-kind_number Other = 2
 
 abbrev pub kind_number_at : List ℕ → ℕ → ℕ
 kind_number_at xs off = number_at xs (off + kind_at) 4

@@ -33,12 +33,10 @@ pub fn put_account(s: &mut [u8], h: Head, p: Place, a: Account)
     requires { Shaped s.old h × Within h p }
     ensures { s.new ≡ put_account h s.old p a }
 {
-    let member = a.member;
-    let position = a.position;
-    members::put_member(s, members::member_off(h, p.member), member);
+    members::put_member(s, members::member_off(h, p.member), a.member);
     positions::put_position(
         s,
         positions::position_off(h, p.member, p.contract),
-        position,
+        a.position,
     );
 }

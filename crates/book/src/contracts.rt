@@ -1,7 +1,8 @@
 // Section 1: a contract's row.
 ghost use Rattle.std.specs.Prelude.{◌≡◌, ◌+◌, ◌≤◌, ◌<◌, length};
+ghost use Rattle.folds.specs.Rows.{row_bytes};
 ghost use Rattle.book.specs.Layout.{contract_size, contract_off};
-ghost use Rattle.book.specs.ContractRows.{contract_at, put_contract};
+ghost use Rattle.book.specs.ContractRows.{contract_at, contract_fields, put_contract};
 
 use crate::layout;
 use rules::units::Price;
@@ -25,28 +26,42 @@ pub fn contract_off(j: usize) -> usize
 }
 
 #[tactic(auto, unfolding(crate::specs::ContractRows::contract_at))]
+fn contract_in(row: &[u8; layout::CONTRACT]) -> Contract
+    ensures { result ≡ contract_at row.now 0 }
+{
+    Contract {
+        last: Price(wire::read(row, layout::LAST)),
+        multiplier: wire::read(row, layout::MULTIPLIER),
+        rate: wire::read(row, layout::RATE),
+        fee: wire::read(row, layout::FEE),
+        delivery: wire::read(row, layout::DELIVERY),
+        zero: wire::read(row, layout::CONTRACT_ZERO),
+    }
+}
+
 pub fn contract_at(s: &[u8], off: usize) -> Contract
     requires { off + contract_size ≤ length s.now }
     ensures { result ≡ contract_at s.now off }
 {
-    Contract {
-        last: Price(wire::read_u32(s, off + layout::LAST)),
-        multiplier: wire::read_u32(s, off + layout::MULTIPLIER),
-        rate: wire::read_u32(s, off + layout::RATE),
-        fee: wire::read_u32(s, off + layout::FEE),
-        delivery: wire::read_u32(s, off + layout::DELIVERY),
-        zero: wire::read_u32(s, off + layout::CONTRACT_ZERO),
-    }
+    contract_in(wire::bytes_at(s, off))
+}
+
+fn contract_row(c: Contract) -> [u8; layout::CONTRACT]
+    ensures { result ≡ row_bytes (contract_fields c) }
+{
+    let mut row = [0; layout::CONTRACT];
+    wire::write(&mut row, layout::LAST, c.last.0);
+    wire::write(&mut row, layout::MULTIPLIER, c.multiplier);
+    wire::write(&mut row, layout::RATE, c.rate);
+    wire::write(&mut row, layout::FEE, c.fee);
+    wire::write(&mut row, layout::DELIVERY, c.delivery);
+    wire::write(&mut row, layout::CONTRACT_ZERO, c.zero);
+    row
 }
 
 pub fn put_contract(s: &mut [u8], off: usize, c: Contract)
     requires { off + contract_size ≤ length s.old }
     ensures { s.new ≡ put_contract s.old off c }
 {
-    wire::write_u32(s, off + layout::LAST, c.last.0);
-    wire::write_u32(s, off + layout::MULTIPLIER, c.multiplier);
-    wire::write_u32(s, off + layout::RATE, c.rate);
-    wire::write_u32(s, off + layout::FEE, c.fee);
-    wire::write_u32(s, off + layout::DELIVERY, c.delivery);
-    wire::write_u32(s, off + layout::CONTRACT_ZERO, c.zero);
+    wire::put_bytes(s, off, &contract_row(c));
 }

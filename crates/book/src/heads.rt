@@ -1,19 +1,19 @@
 // The head and the table of contents.
 ghost use Rattle.std.specs.Prelude.{◌≡◌, ◌+◌, ◌≤◌, length};
-ghost use Rattle.book.specs.Layout.{head_size, entry_size};
-ghost use Rattle.book.specs.Heads.{head_at, entry_at};
+ghost use Rattle.book.specs.Layout.{head_size, entry_size, members_start, positions_start, book_length};
+ghost use Rattle.book.specs.Heads.{head_at, entry_at, contracts_entry, members_entry, positions_entry};
 
 use crate::layout;
 
 // How many members and contracts a book has.
-#[derive(Clone, Copy)]
+#[derive(Clone, Copy, PartialEq, Eq)]
 pub struct Head {
     pub members: usize,
     pub contracts: usize,
 }
 
 // One line of the table of contents.
-#[derive(Clone, Copy)]
+#[derive(Clone, Copy, PartialEq, Eq)]
 pub struct Entry {
     pub section: u32,
     pub size: usize,
@@ -25,8 +25,8 @@ pub fn head_at(s: &[u8]) -> Head
     requires { head_size ≤ length s.now }
     ensures { result ≡ head_at s.now }
 {
-    let members = wire::read_u16(s, layout::MEMBERS) as usize;
-    let contracts = wire::read_u16(s, layout::CONTRACTS) as usize;
+    let members = wire::read::<u16>(s, layout::MEMBERS) as usize;
+    let contracts = wire::read::<u16>(s, layout::CONTRACTS) as usize;
     Head { members, contracts }
 }
 
@@ -35,12 +35,69 @@ pub fn entry_at(s: &[u8], off: usize) -> Entry
     requires { off + entry_size ≤ length s.now }
     ensures { result ≡ entry_at s.now off }
 {
-    let section = wire::read_u16(s, off + layout::SECTION) as u32;
-    let size = wire::read_u16(s, off + layout::ROW_SIZE) as usize;
-    let start = wire::read_u32(s, off + layout::OFFSET) as usize;
+    let section = wire::read::<u16>(s, off + layout::SECTION) as u32;
+    let size = wire::read::<u16>(s, off + layout::ROW_SIZE) as usize;
+    let start = wire::read::<u32>(s, off + layout::OFFSET) as usize;
     Entry {
         section,
         size,
         start,
+    }
+}
+
+// Where the sections begin, where the book ends, and what the table of contents says of each section. The counts' range stays a clause: a head is read before it is known, so the type cannot hold it.
+impl Head {
+    pub fn members_start(self) -> usize
+        requires { self.contracts ≤ 32 }
+        ensures { result ≡ members_start self }
+    {
+        layout::HEAD + self.contracts * layout::CONTRACT
+    }
+
+    pub fn positions_start(self) -> usize
+        requires { (self.members ≤ 32) × (self.contracts ≤ 32) }
+        ensures { result ≡ positions_start self }
+    {
+        self.members_start() + self.members * layout::MEMBER
+    }
+
+    #[tactic(auto, unfolding(crate::specs::Layout::book_length))]
+    pub fn book_length(self) -> usize
+        requires { (self.members ≤ 32) × (self.contracts ≤ 32) }
+        ensures { result ≡ book_length self }
+    {
+        self.positions_start() + self.members * (self.contracts * layout::POSITION)
+    }
+
+    pub fn contracts_entry(self) -> Entry
+        ensures { result ≡ contracts_entry }
+    {
+        Entry {
+            section: 1,
+            size: layout::CONTRACT,
+            start: layout::HEAD,
+        }
+    }
+
+    pub fn members_entry(self) -> Entry
+        requires { self.contracts ≤ 32 }
+        ensures { result ≡ members_entry self }
+    {
+        Entry {
+            section: 2,
+            size: layout::MEMBER,
+            start: self.members_start(),
+        }
+    }
+
+    pub fn positions_entry(self) -> Entry
+        requires { (self.members ≤ 32) × (self.contracts ≤ 32) }
+        ensures { result ≡ positions_entry self }
+    {
+        Entry {
+            section: 3,
+            size: layout::POSITION,
+            start: self.positions_start(),
+        }
     }
 }

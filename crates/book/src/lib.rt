@@ -5,5 +5,6 @@ pub mod accounts;
 pub mod contracts;
 pub mod heads;
 pub mod layout;
+pub mod lent;
 pub mod members;
 pub mod positions;

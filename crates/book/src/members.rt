@@ -1,8 +1,8 @@
 // Section 2: a member's row, in parts, so that a longer row is one part more.
 ghost use Rattle.std.specs.Prelude.{◌≡◌, ◌+◌, ◌≤◌, length};
-ghost use Rattle.folds.specs.Rows.{put_fields};
+ghost use Rattle.folds.specs.Rows.{put_fields, row_bytes};
 ghost use Rattle.book.specs.Layout.{member_size, member_off};
-ghost use Rattle.book.specs.Members.{kind_of, kind_number, figures_at, securities_at, day_at, member_at, figures_fields, securities_fields, day_fields, put_member};
+ghost use Rattle.book.specs.Members.{kind_of, figures_at, securities_at, day_at, member_at, figures_fields, securities_fields, day_fields, member_fields, put_member};
 
 use crate::heads::Head;
 use crate::layout;
@@ -36,113 +36,104 @@ pub fn member_off(h: Head, m: usize) -> usize
     requires { (h.contracts ≤ 32) × (m ≤ 32) }
     ensures { result ≡ member_off h m }
 {
-    layout::HEAD + h.contracts * layout::CONTRACT + m * layout::MEMBER
+    h.members_start() + m * layout::MEMBER
 }
 
 // A number other than 1 and 2 is no kind; the book that has one is not valid.
 fn kind_of(number: u32) -> MemberKind
     ensures { result ≡ kind_of number }
 {
-    if number == 1 {
-        MemberKind::Broker
-    } else {
-        MemberKind::Other
-    }
-}
-
-fn kind_number(kind: MemberKind) -> u32
-    ensures { result ≡ kind_number kind }
-{
-    match kind {
-        MemberKind::Broker => 1,
-        MemberKind::Other => 2,
-    }
+    MemberKind::try_from(number).unwrap_or(MemberKind::Other)
 }
 
 #[tactic(auto, unfolding(crate::specs::Members::figures_at))]
-fn figures_at(s: &[u8], off: usize) -> Figures
-    requires { off + member_size ≤ length s.now }
-    ensures { result ≡ figures_at s.now off }
+fn figures_in(row: &[u8; layout::MEMBER]) -> Figures
+    ensures { result ≡ figures_at row.now 0 }
 {
     Figures {
-        reserve: Fen(wire::read_i64(s, off + layout::RESERVE)),
-        margin: Fen(wire::read_i64(s, off + layout::MARGIN)),
-        usable: Fen(wire::read_i64(s, off + layout::USABLE)),
+        reserve: Fen(wire::read(row, layout::RESERVE)),
+        margin: Fen(wire::read(row, layout::MARGIN)),
+        usable: Fen(wire::read(row, layout::USABLE)),
     }
 }
 
 #[tactic(auto, unfolding(crate::specs::Members::securities_at))]
-fn securities_at(s: &[u8], off: usize) -> Securities
-    requires { off + member_size ≤ length s.now }
-    ensures { result ≡ securities_at s.now off }
+fn securities_in(row: &[u8; layout::MEMBER]) -> Securities
+    ensures { result ≡ securities_at row.now 0 }
 {
     Securities {
-        market: Fen(wire::read_i64(s, off + layout::MARKET)),
-        discount: wire::read_u64(s, off + layout::DISCOUNT),
+        market: Fen(wire::read(row, layout::MARKET)),
+        discount: wire::read(row, layout::DISCOUNT),
     }
 }
 
 #[tactic(auto, unfolding(crate::specs::Members::day_at))]
-fn day_at(s: &[u8], off: usize) -> Day
-    requires { off + member_size ≤ length s.now }
-    ensures { result ≡ day_at s.now off }
+fn day_in(row: &[u8; layout::MEMBER]) -> Day
+    ensures { result ≡ day_at row.now 0 }
 {
     Day {
-        deposits: Fen(wire::read_i64(s, off + layout::DEPOSITS)),
-        withdrawals: Fen(wire::read_i64(s, off + layout::WITHDRAWALS)),
+        deposits: Fen(wire::read(row, layout::DEPOSITS)),
+        withdrawals: Fen(wire::read(row, layout::WITHDRAWALS)),
     }
 }
 
 #[tactic(auto, unfolding(crate::specs::Members::member_at))]
+fn member_in(row: &[u8; layout::MEMBER]) -> Member
+    ensures { result ≡ member_at row.now 0 }
+{
+    Member {
+        kind: kind_of(wire::read(row, layout::KIND)),
+        accepted: wire::read(row, layout::ACCEPTED),
+        figures: figures_in(row),
+        securities: securities_in(row),
+        day: day_in(row),
+    }
+}
+
 pub fn member_at(s: &[u8], off: usize) -> Member
     requires { off + member_size ≤ length s.now }
     ensures { result ≡ member_at s.now off }
 {
-    Member {
-        kind: kind_of(wire::read_u32(s, off + layout::KIND)),
-        accepted: wire::read_u32(s, off + layout::ACCEPTED),
-        figures: figures_at(s, off),
-        securities: securities_at(s, off),
-        day: day_at(s, off),
-    }
+    member_in(wire::bytes_at(s, off))
 }
 
-fn put_figures(s: &mut [u8], off: usize, f: Figures)
-    requires { off + member_size ≤ length s.old }
-    ensures { s.new ≡ put_fields s.old off (figures_fields f) }
+fn put_figures(row: &mut [u8; layout::MEMBER], f: Figures)
+    ensures { row.new ≡ put_fields row.old 0 (figures_fields f) }
 {
-    wire::write_i64(s, off + layout::RESERVE, f.reserve.0);
-    wire::write_i64(s, off + layout::MARGIN, f.margin.0);
-    wire::write_i64(s, off + layout::USABLE, f.usable.0);
+    wire::write(row, layout::RESERVE, f.reserve.0);
+    wire::write(row, layout::MARGIN, f.margin.0);
+    wire::write(row, layout::USABLE, f.usable.0);
 }
 
-fn put_securities(s: &mut [u8], off: usize, c: Securities)
-    requires { off + member_size ≤ length s.old }
-    ensures { s.new ≡ put_fields s.old off (securities_fields c) }
+fn put_securities(row: &mut [u8; layout::MEMBER], c: Securities)
+    ensures { row.new ≡ put_fields row.old 0 (securities_fields c) }
 {
-    wire::write_i64(s, off + layout::MARKET, c.market.0);
-    wire::write_u64(s, off + layout::DISCOUNT, c.discount);
+    wire::write(row, layout::MARKET, c.market.0);
+    wire::write(row, layout::DISCOUNT, c.discount);
 }
 
-fn put_day(s: &mut [u8], off: usize, d: Day)
-    requires { off + member_size ≤ length s.old }
-    ensures { s.new ≡ put_fields s.old off (day_fields d) }
+fn put_day(row: &mut [u8; layout::MEMBER], d: Day)
+    ensures { row.new ≡ put_fields row.old 0 (day_fields d) }
 {
-    wire::write_i64(s, off + layout::DEPOSITS, d.deposits.0);
-    wire::write_i64(s, off + layout::WITHDRAWALS, d.withdrawals.0);
+    wire::write(row, layout::DEPOSITS, d.deposits.0);
+    wire::write(row, layout::WITHDRAWALS, d.withdrawals.0);
+}
+
+fn member_row(r: Member) -> [u8; layout::MEMBER]
+    ensures { result ≡ row_bytes (member_fields r) }
+{
+    let mut row = [0; layout::MEMBER];
+    wire::write(&mut row, layout::KIND, u32::from(r.kind));
+    wire::write(&mut row, layout::ACCEPTED, r.accepted);
+    put_figures(&mut row, r.figures);
+    put_securities(&mut row, r.securities);
+    put_day(&mut row, r.day);
+    row
 }
 
 pub fn put_member(s: &mut [u8], off: usize, r: Member)
     requires { off + member_size ≤ length s.old }
     ensures { s.new ≡ put_member s.old off r }
 {
-    let kind = r.kind;
-    let figures = r.figures;
-    let securities = r.securities;
-    let day = r.day;
-    wire::write_u32(s, off + layout::KIND, kind_number(kind));
-    wire::write_u32(s, off + layout::ACCEPTED, r.accepted);
-    put_figures(s, off, figures);
-    put_securities(s, off, securities);
-    put_day(s, off, day);
+    wire::put_bytes(s, off, &member_row(r));
 }

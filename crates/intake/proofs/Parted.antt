@@ -13,8 +13,8 @@ use Rattle.validity.specs.Valid.{valid_book}
 use Rattle.order.specs.Lens.{Posting, gets, puts, add_all}
 use Rattle.book.specs.declared.accounts.Account.{Account}
 use Rattle.book.specs.Heads.{head_at}
+use Rattle.std.specs.Prelude.{Option, None}
 use Rattle.posting.specs.declared.records.Request.{Request}
-use Rattle.posting.specs.declared.records.Request.TheVariants.{Nothing}
 use Rattle.posting.specs.Records.{request_of, places_for}
 use Rattle.posting.specs.Postings.{posting_of}
 use Rattle.posting.specs.Answers.{accounts, answer, after}
@@ -44,23 +44,23 @@ short_record xs =
     omega (arith, length-take record_size (drop (i * record_size) xs), length-drop (i * record_size) xs)
 
 module _ (book r : List ℕ) where
-  no_request : (length r ≡ record_size → ⊥) → request_of (head_at book) r ≡ Nothing
+  no_request : (length r ≡ record_size → ⊥) → request_of (head_at book) r ≡ None
   unfolding request_of
   no_request h = rw (ne_eqb (length r) record_size h)
 
-  abbrev posting_for : Request → Posting Account ℕ ℕ
+  abbrev posting_for : Option Request → Posting Account ℕ ℕ
   posting_for q = posting_of q (gets accounts (head_at book) book (places_for q))
 
   pub short_refused : valid_book book ≡ true → (length r ≡ record_size → ⊥) → answer book r ≡ 1
   unfolding answer
-  short_refused v h = rw v (ap (λ (q : Request). (posting_for q).says) (no_request h))
+  short_refused v h = rw v (ap (λ (q : Option Request). (posting_for q).says) (no_request h))
 
   pub short_changes_nothing : valid_book book ≡ true → (length r ≡ record_size → ⊥) → after book r ≡ book
   unfolding after
   short_changes_nothing v h =
       rw v
       (ap
-      (λ (q : Request). add_all accounts (head_at book) (puts accounts (head_at book) book (places_for q) (posting_for q).become) (posting_for q).adds)
+      (λ (q : Option Request). add_all accounts (head_at book) (puts accounts (head_at book) book (places_for q) (posting_for q).become) (posting_for q).adds)
       (no_request h))
 
   pub all_refused : valid_book book ≡ false → answer book r ≡ 10

@@ -7,17 +7,13 @@ ghost use Rattle.intake.specs.Posted.{outcome, members_on, SheetRoom};
 
 pub const MOST_MEMBERS: usize = 32;
 
+/// The sheet's members: those of the book's head, and at most 32 of them.
 pub fn members_on(book: &[u8]) -> usize
     requires { head_size ≤ length book.now }
     ensures value { result ≡ members_on book.now }
     ensures upper_bound { result ≤ 32 }
 {
-    let h = book::heads::head_at(book);
-    if h.members < MOST_MEMBERS {
-        h.members
-    } else {
-        MOST_MEMBERS
-    }
+    book::heads::head_at(book).members.min(MOST_MEMBERS)
 }
 
 fn put_sheet(lines: &mut [u8], results: &[u8], members: usize) -> usize
@@ -26,15 +22,14 @@ fn put_sheet(lines: &mut [u8], results: &[u8], members: usize) -> usize
     ensures upper_bound { result ≤ header_length + members * longest_line }
 {
     let mut at = sheet::lines::put_header(lines, 0);
-    let mut m = 0;
-    while m < members {
+    for m in 0..members {
         at = sheet::lines::put_line(lines, at, results, m);
-        m += 1;
     }
     at
 }
 
-// `number` is the settlement's answer.
+/// Puts the sheet where the settlement's answer, `number`, is 0, and else the line of its refusal.
+// `number` stays a number: the clause holds of any. `results` and `members` stay two arguments: the clause names both.
 pub fn put_outcome(lines: &mut [u8], number: u8, results: &[u8], members: usize) -> usize
     requires { SheetRoom members results.now lines.old }
     ensures put { Put lines.old lines.new 0 (outcome number results.now members) result }

@@ -2,7 +2,8 @@
 use mathlib.Core.Path.{◌≡◌, sym, ap, subst}
 use mathlib.Core.Bool.{true}
 use mathlib.Core.List.{List}
-use Prim.{tt}
+use Prim.{Unit, tt}
+use Rattle.std.specs.Prelude.{Option, Some, None}
 use Prim.Native.Nat.{ℕ, ◌<◌}
 use native.Mathlib.Omega.{arith}
 use lib.Dec.{lit≤}
@@ -20,11 +21,16 @@ use Rattle.posting.specs.declared.records.Request.{Request}
 use Rattle.posting.specs.Records.{request_of}
 use Rattle.posting.proofs.Requests.{Formed, trading, pairing, depositing, withdrawing, pledging, nothing, formed}
 use Rattle.posting.specs.Ranges.{AccountIn}
-use Rattle.ledger.specs.Puts.{RequestIn}
+use Rattle.ledger.specs.Puts.{IsBookOf, RequestIn}
 
 -- ---- requests
 
-by_form : (h : Head) (q : Request) → Formed h q → RequestIn h q
+-- what is known of what a record asks for, where it asks for something
+abbrev pub AskedIn : Head → Option Request → Type 0
+AskedIn h (Some q) = RequestIn h q
+AskedIn h None = Unit {0}
+
+by_form : (h : Head) (q : Option Request) → Formed h q → AskedIn h q
 by_form h q (trading s price) = record { contract = s.contract; buyer = s.buyer; seller = s.seller; differ = s.differ; price = price; lots = s.few }
 by_form h q (pairing s) = record { contract = s.contract; buyer = s.buyer; seller = s.seller; differ = s.differ; lots = s.few }
 by_form h q (depositing member amount) = record { member = member; amount = amount.within }
@@ -32,7 +38,7 @@ by_form h q (withdrawing member amount) = record { member = member; amount = amo
 by_form h q (pledging member market discount) = record { member = member; market = market.within; discount = discount }
 by_form h q nothing = tt
 
-pub request_in : (h : Head) (r : List ℕ) → RequestIn h (request_of h r)
+pub request_in : (h : Head) (r : List ℕ) → AskedIn h (request_of h r)
 request_in h r = by_form h (request_of h r) (formed h r)
 
 -- ---- accounts
@@ -58,12 +64,12 @@ module _ (xs : List ℕ) (e : valid_book xs ≡ true) (p : Place) (w : Within (h
       }
 
 -- by a head that is the book's
-pub shaped_by : (h : Head) (xs : List ℕ) → valid_book xs ≡ true → h ≡ head_at xs → Shaped xs h
-shaped_by h xs e d = subst (λ (g : Head). Shaped xs g) (sym d) (valid_shaped xs e)
+pub shaped_by : (h : Head) (xs : List ℕ) → IsBookOf h xs → Shaped xs h
+shaped_by h xs k = subst (λ (g : Head). Shaped xs g) (sym k.head) (valid_shaped xs k.valid)
 
-pub account_by : (h : Head) (xs : List ℕ) (p : Place) → valid_book xs ≡ true → h ≡ head_at xs → Within h p → AccountIn (account_at h xs p)
-account_by h xs p e d w = subst (λ (g : Head). AccountIn (account_at g xs p)) (sym d) (account_in xs e p (subst (λ (g : Head). Within g p) d w))
+pub account_by : (h : Head) (xs : List ℕ) (p : Place) → IsBookOf h xs → Within h p → AccountIn (account_at h xs p)
+account_by h xs p k w = subst (λ (g : Head). AccountIn (account_at g xs p)) (sym k.head) (account_in xs k.valid p (subst (λ (g : Head). Within g p) k.head w))
 
 -- the first contract is there
-pub some_contract : (h : Head) (xs : List ℕ) → valid_book xs ≡ true → h ≡ head_at xs → 0 < h.contracts
-some_contract h xs e d = omega (arith, has_contract xs (valid_head xs e), ap (λ (g : Head). g.contracts) d)
+pub some_contract : (h : Head) (xs : List ℕ) → IsBookOf h xs → 0 < h.contracts
+some_contract h xs k = omega (arith, has_contract xs (valid_head xs k.valid), ap (λ (g : Head). g.contracts) k.head)

@@ -1,12 +1,13 @@
 -- 01, Day records: a posting at the bytes. Its accounts are read from their places, and put back where the number is 0.
-use Prim.{Unit}
-use Rattle.std.specs.Prelude.{ℕ, List}
+use Rattle.std.specs.Prelude.{ℕ, List, ◌≡◌, true, Option}
 use Rattle.order.specs.Lens as lens
 use Rattle.book.specs.declared.heads.Head.{Head}
 use Rattle.book.specs.declared.accounts.Place.{Place}
+use Rattle.book.specs.Heads.{head_at}
 use Rattle.book.specs.Accounts.{account_at, put_account}
+use Rattle.validity.specs.Valid.{valid_book}
 use Rattle.posting.specs.declared.records.Request.{Request}
-use Rattle.posting.specs.declared.records.Request.TheVariants.{Trading, PairingUp, Depositing, Withdrawing, Pledging, Nothing}
+use Rattle.posting.specs.declared.records.Request.TheVariants.{Trading, PairingUp, Depositing, Withdrawing, Pledging}
 use Rattle.posting.specs.Records.{places_for}
 use Rattle.folds.specs.First.{on_zero}
 use Rattle.posting.specs.Postings.{posting_of}
@@ -14,6 +15,11 @@ use Rattle.posting.specs.declared.accounts.Entry.{Entry}
 use Rattle.posting.specs.Entries.{entry_answer, entered, lower}
 use Rattle.posting.specs.Answers.{accounts}
 use Rattle.posting.specs.Ranges.{TradeIn, PairingIn, PaymentIn, PledgeIn}
+
+-- the bytes are a valid book, and h is its head
+pub record IsBookOf (h : Head) (xs : List ℕ) : Type 0 where
+  pub valid : valid_book xs ≡ true
+  pub head : h ≡ head_at xs
 
 -- one account at its place, posted and put back
 abbrev pub one_answer : Head → List ℕ → Place → Entry → ℕ
@@ -31,10 +37,10 @@ two_after h xs p e q f =
     on_zero (two_answer h xs p e q f) (put_account h (put_account h xs p (entered e (account_at h xs p))) q (entered f (account_at h xs q))) xs
 
 -- a request at the bytes of a valid book with the head h
-unfoldable pub says_to : Head → List ℕ → Request → ℕ
+unfoldable pub says_to : Head → List ℕ → Option Request → ℕ
 says_to h xs q = (posting_of q (lens.gets accounts h xs (places_for q))).says
 
-unfoldable pub step_to : Head → List ℕ → Request → List ℕ
+unfoldable pub step_to : Head → List ℕ → Option Request → List ℕ
 step_to h xs q =
     let p = posting_of q (lens.gets accounts h xs (places_for q)) in
     lens.add_all accounts h (lens.puts accounts h xs (places_for q) p.become) p.adds
@@ -46,4 +52,3 @@ RequestIn h (PairingUp p) = PairingIn h p
 RequestIn h (Depositing p) = PaymentIn h p
 RequestIn h (Withdrawing p) = PaymentIn h p
 RequestIn h (Pledging p) = PledgeIn h p
-RequestIn h Nothing = Unit {0}

@@ -1,107 +1,124 @@
 // Day records posted to the bytes of a book: each named account is read, lent to its posting, and put back within one call on the one book.
 #![tactic(auto)]
 
-ghost use Rattle.std.specs.Prelude.{◌≡◌, true, ◌<◌};
-ghost use Rattle.book.specs.Heads.{head_at};
+ghost use Rattle.std.specs.Prelude.{◌≡◌, true, ◌<◌, Some};
+ghost use Rattle.rules.specs.Refusals.{answered};
 ghost use Rattle.book.specs.Accounts.{place, Within};
 ghost use Rattle.validity.specs.Valid.{valid_book};
 ghost use Rattle.posting.specs.Ranges.{TradeIn, PairingIn, EntryIn};
 ghost use Rattle.posting.specs.Answers.{says, step, answer, after};
 ghost use Rattle.posting.specs.declared.records.Request.TheVariants.{Trading, PairingUp};
-ghost use Rattle.ledger.specs.Puts.{one_answer, one_after, two_answer, two_after, says_to, step_to, RequestIn};
+ghost use Rattle.ledger.specs.Props.{entry_is_fact};
+ghost use Rattle.ledger.specs.Puts.{IsBookOf, one_answer, one_after, two_answer, two_after, says_to, step_to, RequestIn};
 
-use book::accounts::Place;
+use book::accounts::{self, Place};
 use book::heads::Head;
 use posting::accounts::Entry;
 use posting::records::{Pairing, Request, Trade};
+use posting::{lending, postings, reading};
+use rules::refusals::Refusal;
 
-// One account: read from its place, lent to the posting, and put back where no rule refuses.
-fn post_one(s: &mut [u8], h: Head, p: Place, e: Entry) -> u8
-    requires { (valid_book s.old ≡ true) × (h ≡ head_at s.old) × Within h p × EntryIn e }
-    ensures value { result ≡ one_answer h s.old p e }
-    ensures s_after { s.new ≡ one_after h s.old p e }
+// The functions below take the bytes and their head, and a clause says that they are a valid book: a type would have to hold it after the posting too, which is `kept`, a theorem of `promises`, so its proof would not close here.
+
+// An account that a record names, by its place, and what the record asks of it.
+#[derive(Clone, Copy)]
+struct NamedAccount {
+    place: Place,
+    entry: Entry,
+    ghost entry_in: { EntryIn entry } by { entry_is_fact entry },
+}
+
+// Reads the account from its place, lends it to the posting, and puts it back where no rule refuses.
+fn post_one(s: &mut [u8], h: Head, n: NamedAccount) -> Result<(), Refusal>
+    requires { IsBookOf h s.old × Within h n.place }
+    ensures value { answered result ≡ one_answer h s.old n.place n.entry }
+    ensures s_after { s.new ≡ one_after h s.old n.place n.entry }
 {
-    let a = book::accounts::account_at(s, h, p);
-    let posted = posting::lending::lent(a, e);
-    let n = posted.answer;
-    if n != 0 {
-        return n;
-    }
-    let after = posted.account;
-    book::accounts::put_account(s, h, p, after);
-    0
+    let a = accounts::account_at(s, h, n.place);
+    let after = lending::lent(a, n.entry)?;
+    accounts::put_account(s, h, n.place, after);
+    Ok(())
 }
 
 // Two accounts: each lent by itself, and both put back where neither refuses.
-fn post_two(s: &mut [u8], h: Head, p: Place, e: Entry, q: Place, f: Entry) -> u8
-    requires { (valid_book s.old ≡ true) × (h ≡ head_at s.old) × Within h p × EntryIn e × Within h q × EntryIn f }
-    ensures value { result ≡ two_answer h s.old p e q f }
-    ensures s_after { s.new ≡ two_after h s.old p e q f }
+fn post_two(s: &mut [u8], h: Head, first: NamedAccount, second: NamedAccount) -> Result<(), Refusal>
+    requires { IsBookOf h s.old × Within h first.place × Within h second.place }
+    ensures value { answered result ≡ two_answer h s.old first.place first.entry second.place second.entry }
+    ensures s_after { s.new ≡ two_after h s.old first.place first.entry second.place second.entry }
 {
-    let a = book::accounts::account_at(s, h, p);
-    let b = book::accounts::account_at(s, h, q);
-    let first = posting::lending::lent(a, e);
-    let second = posting::lending::lent(b, f);
-    let n = posting::postings::lower(first.answer, second.answer);
-    if n != 0 {
-        return n;
-    }
-    let one = first.account;
-    let other = second.account;
-    book::accounts::put_account(s, h, p, one);
-    book::accounts::put_account(s, h, q, other);
-    0
+    let a = accounts::account_at(s, h, first.place);
+    let b = accounts::account_at(s, h, second.place);
+    let one = lending::lent(a, first.entry);
+    let other = lending::lent(b, second.entry);
+    let (one, other) = postings::both(one, other)?;
+    accounts::put_account(s, h, first.place, one);
+    accounts::put_account(s, h, second.place, other);
+    Ok(())
 }
 
-fn post_trade(s: &mut [u8], h: Head, t: Trade) -> u8
-    requires { (valid_book s.old ≡ true) × (h ≡ head_at s.old) × TradeIn h t }
-    ensures value { result ≡ says_to h s.old (Trading t) }
-    ensures s_after { s.new ≡ step_to h s.old (Trading t) }
+fn post_trade(s: &mut [u8], h: Head, t: Trade) -> Result<(), Refusal>
+    requires { IsBookOf h s.old × TradeIn h t }
+    ensures value { answered result ≡ says_to h s.old (Some (Trading t)) }
+    ensures s_after { s.new ≡ step_to h s.old (Some (Trading t)) }
 {
-    let buyer = Place {
-        member: t.buyer,
-        contract: t.contract,
+    let contract = t.contract;
+    let buyer = NamedAccount {
+        place: Place {
+            member: t.buyer,
+            contract,
+        },
+        entry: Entry::Buys(t),
     };
-    let seller = Place {
-        member: t.seller,
-        contract: t.contract,
+    let seller = NamedAccount {
+        place: Place {
+            member: t.seller,
+            contract,
+        },
+        entry: Entry::Sells(t),
     };
-    post_two(s, h, buyer, Entry::Buys(t), seller, Entry::Sells(t))
+    post_two(s, h, buyer, seller)
 }
 
-fn post_pairing(s: &mut [u8], h: Head, p: Pairing) -> u8
-    requires { (valid_book s.old ≡ true) × (h ≡ head_at s.old) × PairingIn h p }
-    ensures value { result ≡ says_to h s.old (PairingUp p) }
-    ensures s_after { s.new ≡ step_to h s.old (PairingUp p) }
+fn post_pairing(s: &mut [u8], h: Head, p: Pairing) -> Result<(), Refusal>
+    requires { IsBookOf h s.old × PairingIn h p }
+    ensures value { answered result ≡ says_to h s.old (Some (PairingUp p)) }
+    ensures s_after { s.new ≡ step_to h s.old (Some (PairingUp p)) }
 {
-    let buyer = Place {
-        member: p.buyer,
-        contract: p.contract,
+    let contract = p.contract;
+    let buyer = NamedAccount {
+        place: Place {
+            member: p.buyer,
+            contract,
+        },
+        entry: Entry::Receives(p),
     };
-    let seller = Place {
-        member: p.seller,
-        contract: p.contract,
+    let seller = NamedAccount {
+        place: Place {
+            member: p.seller,
+            contract,
+        },
+        entry: Entry::Delivers(p),
     };
-    post_two(s, h, buyer, Entry::Receives(p), seller, Entry::Delivers(p))
+    post_two(s, h, buyer, seller)
 }
 
 // A record without a contract carries the member's row in contract 0 through unchanged.
-fn post_alone(s: &mut [u8], h: Head, member: usize, e: Entry) -> u8
-    requires { (valid_book s.old ≡ true) × (h ≡ head_at s.old) × (member < h.members) × EntryIn e }
-    ensures value { result ≡ one_answer h s.old (place member 0) e }
-    ensures s_after { s.new ≡ one_after h s.old (place member 0) e }
+fn post_alone(s: &mut [u8], h: Head, member: usize, entry: Entry) -> Result<(), Refusal>
+    requires { IsBookOf h s.old × (member < h.members) × EntryIn entry }
+    ensures value { answered result ≡ one_answer h s.old (place member 0) entry }
+    ensures s_after { s.new ≡ one_after h s.old (place member 0) entry }
 {
-    let p = Place {
+    let place = Place {
         member,
         contract: 0,
     };
-    post_one(s, h, p, e)
+    post_one(s, h, NamedAccount { place, entry })
 }
 
-fn post_request(s: &mut [u8], h: Head, q: Request) -> u8
-    requires { (valid_book s.old ≡ true) × (h ≡ head_at s.old) × RequestIn h q }
-    ensures value { result ≡ says_to h s.old q }
-    ensures s_after { s.new ≡ step_to h s.old q }
+fn post_request(s: &mut [u8], h: Head, q: Request) -> Result<(), Refusal>
+    requires { IsBookOf h s.old × RequestIn h q }
+    ensures value { answered result ≡ says_to h s.old (Some q) }
+    ensures s_after { s.new ≡ step_to h s.old (Some q) }
 {
     match q {
         Request::Trading(t) => post_trade(s, h, t),
@@ -109,27 +126,26 @@ fn post_request(s: &mut [u8], h: Head, q: Request) -> u8
         Request::Depositing(p) => post_alone(s, h, p.member, Entry::PaysIn(p)),
         Request::Withdrawing(p) => post_alone(s, h, p.member, Entry::TakesOut(p)),
         Request::Pledging(p) => post_alone(s, h, p.member, Entry::Pledges(p)),
-        Request::Nothing => 1,
     }
 }
 
 // A record posted to a book that is known to be valid.
-pub fn post_valid(s: &mut [u8], r: &[u8]) -> u8
+pub fn post_valid(s: &mut [u8], r: &[u8]) -> Result<(), Refusal>
     requires { valid_book s.old ≡ true }
-    ensures value { result ≡ says s.old r.now }
+    ensures value { answered result ≡ says s.old r.now }
     ensures s_after { s.new ≡ step s.old r.now }
 {
     let h = book::heads::head_at(s);
-    let q = posting::reading::request_of(h, r);
+    let q = reading::request_of(h, r).ok_or(Refusal::BadRecord)?;
     post_request(s, h, q)
 }
 
-pub fn post(s: &mut [u8], r: &[u8]) -> u8
-    ensures value { result ≡ answer s.old r.now }
+pub fn post(s: &mut [u8], r: &[u8]) -> Result<(), Refusal>
+    ensures value { answered result ≡ answer s.old r.now }
     ensures s_after { s.new ≡ after s.old r.now }
 {
     if !validity::valid(s) {
-        return 10;
+        return Err(Refusal::BadBook);
     }
     post_valid(s, r)
 }

@@ -17,14 +17,14 @@ use Rattle.book.specs.declared.heads.Head.{Head}
 use Rattle.book.specs.declared.accounts.Place.{Place}
 use Rattle.book.specs.Accounts.{Within}
 use Rattle.posting.specs.declared.records.Record.{Record}
-use Rattle.posting.specs.declared.records.MarkRead.{MarkRead}
-use Rattle.posting.specs.declared.records.MarkRead.TheVariants.{Known, Unknown}
+use Rattle.std.specs.Prelude.{Option, Some, None}
+use Rattle.posting.specs.declared.records.Mark.{Mark}
 use Rattle.posting.specs.declared.records.Trade.{Trade}
 use Rattle.posting.specs.declared.records.Pairing.{Pairing}
 use Rattle.posting.specs.declared.records.Payment.{Payment}
 use Rattle.posting.specs.declared.records.Pledge.{Pledge}
 use Rattle.posting.specs.declared.records.Request.{Request}
-use Rattle.posting.specs.declared.records.Request.TheVariants.{Trading, PairingUp, Depositing, Withdrawing, Pledging, Nothing}
+use Rattle.posting.specs.declared.records.Request.TheVariants.{Trading, PairingUp, Depositing, Withdrawing, Pledging}
 use Rattle.posting.specs.Records.{record_size, record_at, read_mark, trade_tests, pairing_tests, payment_tests, pledge_tests, trade_by, payment, read_trade, read_pairing, read_deposit, read_withdrawal, read_pledge, read_kind, request_of, names_of, contract_of, places_in, places_for}
 
 -- n lots of contract j, the buyer m and the seller m'
@@ -36,13 +36,13 @@ pub record Parties (h : Head) (j m m' n : ℕ) : Type 0 where
   pub some : 1 ≤ n
   pub few : n ≤ 10_000
 
-pub data Formed (h : Head) : Request → Type 0 where
-  trading : {t : Trade} → Parties h t.contract t.buyer t.seller t.lots.0 → t.price.0 ≤ 10_000_000 → Formed h (Trading t)
-  pairing : {p : Pairing} → Parties h p.contract p.buyer p.seller p.lots.0 → Formed h (PairingUp p)
-  depositing : {p : Payment} → p.member < h.members → Amount (10 ^ 12) p.amount → Formed h (Depositing p)
-  withdrawing : {p : Payment} → p.member < h.members → Amount (10 ^ 12) p.amount → Formed h (Withdrawing p)
-  pledging : {p : Pledge} → p.member < h.members → Amount (10 ^ 15) p.market → p.discount ≤ 8_000 → Formed h (Pledging p)
-  nothing : Formed h Nothing
+pub data Formed (h : Head) : Option Request → Type 0 where
+  trading : {t : Trade} → Parties h t.contract t.buyer t.seller t.lots.0 → t.price.0 ≤ 10_000_000 → Formed h (Some (Trading t))
+  pairing : {p : Pairing} → Parties h p.contract p.buyer p.seller p.lots.0 → Formed h (Some (PairingUp p))
+  depositing : {p : Payment} → p.member < h.members → Amount (10 ^ 12) p.amount → Formed h (Some (Depositing p))
+  withdrawing : {p : Payment} → p.member < h.members → Amount (10 ^ 12) p.amount → Formed h (Some (Withdrawing p))
+  pledging : {p : Pledge} → p.member < h.members → Amount (10 ^ 15) p.market → p.discount ≤ 8_000 → Formed h (Some (Pledging p))
+  nothing : Formed h None
 
 -- ---- by the tests of each kind
 
@@ -53,11 +53,11 @@ where_true false x y P f g = g
 module _ (h : Head) (q : Record) where
   trade_formed : Formed h (read_trade h q)
   unfolding read_trade
-  trade_formed = where_true (all_of (trade_tests h q)) (trade_by (read_mark q.marks.first) (read_mark q.marks.second) q) Nothing (Formed h)
+  trade_formed = where_true (all_of (trade_tests h q)) (trade_by (read_mark q.marks.first) (read_mark q.marks.second) q) None (Formed h)
       (λ e. marked e (read_mark q.marks.first) (read_mark q.marks.second)) nothing
     where
-      marked : all_of (trade_tests h q) ≡ true → (m m' : MarkRead) → Formed h (trade_by m m' q)
-      marked e (Known buying) (Known selling) =
+      marked : all_of (trade_tests h q) ≡ true → (m m' : Option Mark) → Formed h (trade_by m m' q)
+      marked e (Some buying) (Some selling) =
           let t = each (trade_tests h q) e in
           trading
           (record {
@@ -69,12 +69,12 @@ module _ (h : Head) (q : Record) where
             few = between_high 1 10_000 q.b (t 5);
           })
           (between_high 1 10_000_000 q.a (t 4))
-      marked e (Known buying) Unknown = nothing
-      marked e Unknown m' = nothing
+      marked e (Some buying) None = nothing
+      marked e None m' = nothing
 
   pairing_formed : Formed h (read_pairing h q)
   unfolding read_pairing
-  pairing_formed = where_true (all_of (pairing_tests h q)) _ Nothing (Formed h)
+  pairing_formed = where_true (all_of (pairing_tests h q)) _ None (Formed h)
       (λ e. let t = each (pairing_tests h q) e in
       pairing (record {
         contract = ltb-true q.contract h.contracts (t 0);
@@ -93,15 +93,15 @@ module _ (h : Head) (q : Record) where
 
   deposit_formed : Formed h (read_deposit h q)
   unfolding read_deposit
-  deposit_formed = where_true (all_of (payment_tests h q)) (Depositing (payment q)) Nothing (Formed h) (λ e. depositing (payer e) (sum_paid e)) nothing
+  deposit_formed = where_true (all_of (payment_tests h q)) (Some (Depositing (payment q))) None (Formed h) (λ e. depositing (payer e) (sum_paid e)) nothing
 
   withdrawal_formed : Formed h (read_withdrawal h q)
   unfolding read_withdrawal
-  withdrawal_formed = where_true (all_of (payment_tests h q)) (Withdrawing (payment q)) Nothing (Formed h) (λ e. withdrawing (payer e) (sum_paid e)) nothing
+  withdrawal_formed = where_true (all_of (payment_tests h q)) (Some (Withdrawing (payment q))) None (Formed h) (λ e. withdrawing (payer e) (sum_paid e)) nothing
 
   pledge_formed : Formed h (read_pledge h q)
   unfolding read_pledge
-  pledge_formed = where_true (all_of (pledge_tests h q)) _ Nothing (Formed h)
+  pledge_formed = where_true (all_of (pledge_tests h q)) _ None (Formed h)
       (λ e. let t = each (pledge_tests h q) e in pledging (ltb-true q.first h.members (t 1)) (amount (leb-true q.a (10 ^ 15) (t 4))) (leb-true q.b 8_000 (t 5))) nothing
 
   kind_formed : Formed h (read_kind h q)
@@ -115,16 +115,16 @@ module _ (h : Head) (q : Record) where
 
 pub formed : (h : Head) (r : List ℕ) → Formed h (request_of h r)
 unfolding request_of
-formed h r = where_true (eqb (length r) record_size) (read_kind h (record_at r)) Nothing (Formed h) (λ e. kind_formed h (record_at r)) nothing
+formed h r = where_true (eqb (length r) record_size) (read_kind h (record_at r)) None (Formed h) (λ e. kind_formed h (record_at r)) nothing
 
 -- ---- where its places lie
 
 -- a place of the record is one of its members in its contract
-pub record Standing (q : Request) (p : Place) : Type 0 where
+pub record Standing (q : Option Request) (p : Place) : Type 0 where
   pub contract : p.contract ≡ contract_of q
   pub member : Memᴰ p.member (names_of q)
 
-pub standing : (q : Request) (p : Place) → Memᴰ p (places_for q) → Standing q p
+pub standing : (q : Option Request) (p : Place) → Memᴰ p (places_for q) → Standing q p
 standing q p i = let z = at (names_of q) i in record { contract = z.0; member = z.1 }
   where
     at : (ms : List ℕ) → Memᴰ p (places_in (contract_of q) ms) → (p.contract ≡ contract_of q) × Memᴰ p.member ms
@@ -132,7 +132,7 @@ standing q p i = let z = at (names_of q) i in record { contract = z.0; member = 
     at (m ∷ ms) (Memᴰ.head e) = (ap (λ (z : Place). z.contract) e, Memᴰ.head (ap (λ (z : Place). z.member) e))
     at (m ∷ ms) (Memᴰ.tail k) = let z = at ms k in (z.0, Memᴰ.tail z.1)
 
-contract_in_lem : {h : Head} {q : Request} → 0 < h.contracts → Formed h q → contract_of q < h.contracts
+contract_in_lem : {h : Head} {q : Option Request} → 0 < h.contracts → Formed h q → contract_of q < h.contracts
 contract_in_lem k (trading s f) = s.contract
 contract_in_lem k (pairing s) = s.contract
 contract_in_lem k (depositing m f) = k
@@ -140,7 +140,7 @@ contract_in_lem k (withdrawing m f) = k
 contract_in_lem k (pledging m f d) = k
 contract_in_lem k nothing = k
 
-name_in : {h : Head} {q : Request} (m : ℕ) → Formed h q → Memᴰ m (names_of q) → m < h.members
+name_in : {h : Head} {q : Option Request} (m : ℕ) → Formed h q → Memᴰ m (names_of q) → m < h.members
 name_in m (trading s f) (Memᴰ.head e) = omega (arith, s.buyer)
 name_in m (trading s f) (Memᴰ.tail i) = let e = Memᴰ.eq_of_singleton i in omega (arith, s.seller)
 name_in m (pairing s) (Memᴰ.head e) = omega (arith, s.buyer)
@@ -150,5 +150,5 @@ name_in m (withdrawing l f) i = let e = Memᴰ.eq_of_singleton i in omega arith
 name_in m (pledging l f d) i = let e = Memᴰ.eq_of_singleton i in omega arith
 name_in m nothing i = absurd (Memᴰ.not-nil i)
 
-pub places_within : {h : Head} {q : Request} → 0 < h.contracts → Formed h q → (p : Place) → Memᴰ p (places_for q) → Within h p
+pub places_within : {h : Head} {q : Option Request} → 0 < h.contracts → Formed h q → (p : Place) → Memᴰ p (places_for q) → Within h p
 places_within {h} {q} k f p i = let s = standing q p i in record { member = name_in p.member f s.member; contract = omega (arith, s.contract, contract_in_lem k f) }

@@ -7,7 +7,6 @@ use Rattle.posting.specs.Fills.{Party, Buyer, Seller, Way, Long, Short}
 use Rattle.posting.specs.Postings.{traded, paired_on, deposited, withdrawn, pledged, full, barred, fewer, beyond, scarce, deposit_answer, withdrawal_answer, pledge_answer}
 pub use Rattle.posting.specs.declared.accounts.Entry.{Entry}
 pub use Rattle.posting.specs.declared.accounts.Entry.TheVariants.{Buys, Sells, Receives, Delivers, PaysIn, TakesOut, Pledges}
-pub use Rattle.posting.specs.declared.accounts.Outcome.{Outcome}
 pub use Rattle.posting.specs.declared.accounts.Posted.{Posted}
 
 -- 2 to 5 for one side of a trade
@@ -42,24 +41,13 @@ entered (PaysIn p) a = deposited p a
 entered (TakesOut p) a = withdrawn p a
 entered (Pledges p) a = pledged p a
 
--- what is decided of the account: 01's number, or the account after the entry
-abbrev pub decided_of : Account → Entry → Outcome
-decided_of a e = on_zero (entry_answer e a) (Outcome.Done (entered e a)) (Outcome.Refused (entry_answer e a))
+-- the account after the entry; as it stood, where a rule refuses
+abbrev pub account_after : Entry → Account → Account
+account_after e a = on_zero (entry_answer e a) (entered e a) a
 
--- the document's number for each case, and the account as it stands then: a refusal leaves it as it stood
-abbrev pub outcome_number : Outcome → ℕ
-outcome_number (Outcome.Refused n) = n
-outcome_number (Outcome.Done b) = 0
-
-abbrev pub outcome_account : Account → Outcome → Account
-outcome_account a (Outcome.Refused n) = a
-outcome_account a (Outcome.Done b) = b
-
-abbrev pub posted_by : Account → Outcome → Posted
-posted_by a o = record { answer = outcome_number o; account = outcome_account a o }
-
+-- 01's number, and the account as it stands then
 abbrev pub posted_of : Account → Entry → Posted
-posted_of a e = posted_by a (decided_of a e)
+posted_of a e = record { answer = entry_answer e a; account = account_after e a }
 
 -- the first refusal of two accounts, by rising number
 abbrev pub lower : ℕ → ℕ → ℕ

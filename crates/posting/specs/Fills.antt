@@ -8,10 +8,10 @@ use Rattle.book.specs.declared.positions.Side.{Side}
 use Rattle.book.specs.declared.positions.Position.{Position}
 use Rattle.book.specs.Positions.{held_of}
 use Rattle.posting.specs.Records.{Mark, Opens, ClosesOld, ClosesNew}
-pub use Rattle.posting.specs.declared.accounts.Way.{Way}
-pub use Rattle.posting.specs.declared.accounts.Way.TheVariants.{Long, Short}
-pub use Rattle.posting.specs.declared.accounts.Party.{Party}
-pub use Rattle.posting.specs.declared.accounts.Party.TheVariants.{Buyer, Seller}
+pub use Rattle.posting.specs.declared.fills.Way.{Way}
+pub use Rattle.posting.specs.declared.fills.Way.TheVariants.{Long, Short}
+pub use Rattle.posting.specs.declared.fills.Party.{Party}
+pub use Rattle.posting.specs.declared.fills.Party.TheVariants.{Buyer, Seller}
 
 -- a buyer opens longs and closes shorts, a seller opens shorts and closes longs
 abbrev pub way_of : Party → Mark → Way

@@ -1,4 +1,5 @@
 -- 01, Day records, and Refusal numbers 1 to 7 and 10.
+pub mod Kinds
 pub mod Records
 pub mod Fills
 pub mod Postings

@@ -1,5 +1,5 @@
 -- 01, Day records and Refusal numbers: what each request makes of the accounts that it names, and by which number it is refused.
-use Rattle.std.specs.Prelude.{ℕ, ◌+◌, Bool, false, not, List, [], ◌∷◌, leb, ◌+ℤ◌, ◌-ℤ◌}
+use Rattle.std.specs.Prelude.{ℕ, ◌+◌, Bool, false, not, List, [], ◌∷◌, leb, ◌+ℤ◌, ◌-ℤ◌, Option, Some, None}
 use Rattle.std.specs.Int.Signed.{lt_z}
 use Rattle.folds.specs.First.{Rule, ◌gives◌, first_of, on_zero}
 use Rattle.order.specs.Lens.{Posting}
@@ -12,7 +12,7 @@ use Rattle.book.specs.declared.members.Day.{Day}
 use Rattle.book.specs.declared.members.Member.{Member}
 use Rattle.book.specs.declared.positions.Position.{Position}
 use Rattle.book.specs.declared.accounts.Account.{Account}
-use Rattle.posting.specs.Records.{Mark, Opens, ClosesOld, ClosesNew, Trade, Pairing, Payment, Pledge, Request, Trading, PairingUp, Depositing, Withdrawing, Pledging, Nothing}
+use Rattle.posting.specs.Records.{Mark, Opens, ClosesOld, ClosesNew, Trade, Pairing, Payment, Pledge, Request, Trading, PairingUp, Depositing, Withdrawing, Pledging}
 use Rattle.posting.specs.Fills.{Party, Buyer, Seller, Way, Long, Short, way_of, side_on, with_side, paired_up, dealt, enough, roomy, free}
 
 -- ---- the accounts after an accepted record
@@ -122,17 +122,17 @@ abbrev pub outcome : ℕ → List Account → Posting Account ℕ ℕ
 outcome n become = record { says = n; become = on_zero n become []; adds = [] }
 
 -- what a request asks of the accounts named, in the order of the names
-abbrev pub posting_of : Request → List Account → Posting Account ℕ ℕ
-posting_of (Trading t) [] = outcome 1 []
-posting_of (Trading t) (a ∷ []) = outcome 1 []
-posting_of (Trading t) (a ∷ b ∷ l) = outcome (trade_answer t a b) (traded Buyer t.buying t a ∷ traded Seller t.selling t b ∷ [])
-posting_of (PairingUp p) [] = outcome 1 []
-posting_of (PairingUp p) (a ∷ []) = outcome 1 []
-posting_of (PairingUp p) (a ∷ b ∷ l) = outcome (pairing_answer p a b) (paired_on Long p a ∷ paired_on Short p b ∷ [])
-posting_of (Depositing p) [] = outcome 1 []
-posting_of (Depositing p) (a ∷ l) = outcome (deposit_answer p a) (deposited p a ∷ [])
-posting_of (Withdrawing p) [] = outcome 1 []
-posting_of (Withdrawing p) (a ∷ l) = outcome (withdrawal_answer p a) (withdrawn p a ∷ [])
-posting_of (Pledging p) [] = outcome 1 []
-posting_of (Pledging p) (a ∷ l) = outcome (pledge_answer p a) (pledged p a ∷ [])
-posting_of Nothing l = outcome 1 []
+abbrev pub posting_of : Option Request → List Account → Posting Account ℕ ℕ
+posting_of (Some (Trading t)) [] = outcome 1 []
+posting_of (Some (Trading t)) (a ∷ []) = outcome 1 []
+posting_of (Some (Trading t)) (a ∷ b ∷ l) = outcome (trade_answer t a b) (traded Buyer t.buying t a ∷ traded Seller t.selling t b ∷ [])
+posting_of (Some (PairingUp p)) [] = outcome 1 []
+posting_of (Some (PairingUp p)) (a ∷ []) = outcome 1 []
+posting_of (Some (PairingUp p)) (a ∷ b ∷ l) = outcome (pairing_answer p a b) (paired_on Long p a ∷ paired_on Short p b ∷ [])
+posting_of (Some (Depositing p)) [] = outcome 1 []
+posting_of (Some (Depositing p)) (a ∷ l) = outcome (deposit_answer p a) (deposited p a ∷ [])
+posting_of (Some (Withdrawing p)) [] = outcome 1 []
+posting_of (Some (Withdrawing p)) (a ∷ l) = outcome (withdrawal_answer p a) (withdrawn p a ∷ [])
+posting_of (Some (Pledging p)) [] = outcome 1 []
+posting_of (Some (Pledging p)) (a ∷ l) = outcome (pledge_answer p a) (pledged p a ∷ [])
+posting_of None l = outcome 1 []

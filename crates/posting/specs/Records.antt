@@ -1,5 +1,5 @@
 -- 01, Day records: the 24 bytes, the table of kinds, and whom a record names.
-use Rattle.std.specs.Prelude.{ℕ, ◌^◌, Bool, cond, not, ◌&&◌, List, [], ◌∷◌, leb, ltb, eqb, pos, length, get_or}
+use Rattle.std.specs.Prelude.{ℕ, ◌^◌, ◌≡◌, Bool, cond, not, ◌&&◌, List, [], ◌∷◌, leb, ltb, eqb, pos, length, get_or, Option, Some, None, Result, MatchResult}
 use Rattle.wire.specs.LittleEndian.{number_at}
 use Rattle.folds.specs.Tests.{all_of, between}
 use Rattle.rules.specs.Units.{fen, lots, price}
@@ -10,14 +10,13 @@ pub use Rattle.posting.specs.declared.records.Marks.{Marks}
 pub use Rattle.posting.specs.declared.records.Record.{Record}
 pub use Rattle.posting.specs.declared.records.Mark.{Mark}
 pub use Rattle.posting.specs.declared.records.Mark.TheVariants.{Opens, ClosesOld, ClosesNew}
-pub use Rattle.posting.specs.declared.records.MarkRead.{MarkRead}
-pub use Rattle.posting.specs.declared.records.MarkRead.TheVariants.{Known, Unknown}
+pub use Rattle.posting.specs.declared.records.UnknownMark.{UnknownMark}
 pub use Rattle.posting.specs.declared.records.Trade.{Trade}
 pub use Rattle.posting.specs.declared.records.Pairing.{Pairing}
 pub use Rattle.posting.specs.declared.records.Payment.{Payment}
 pub use Rattle.posting.specs.declared.records.Pledge.{Pledge}
 pub use Rattle.posting.specs.declared.records.Request.{Request}
-pub use Rattle.posting.specs.declared.records.Request.TheVariants.{Trading, PairingUp, Depositing, Withdrawing, Pledging, Nothing}
+pub use Rattle.posting.specs.declared.records.Request.TheVariants.{Trading, PairingUp, Depositing, Withdrawing, Pledging}
 
 abbrev pub record_size : ℕ
 record_size = 24
@@ -36,8 +35,12 @@ record_at r = record {
 }
 
 -- 0 opens, 1 closes old lots, 2 closes lots opened today
-abbrev pub read_mark : ℕ → MarkRead
-read_mark n = cond (eqb n 0) (Known Opens) (cond (eqb n 1) (Known ClosesOld) (cond (eqb n 2) (Known ClosesNew) Unknown))
+abbrev pub read_mark : ℕ → Option Mark
+read_mark n = cond (eqb n 0) (Some Opens) (cond (eqb n 1) (Some ClosesOld) (cond (eqb n 2) (Some ClosesNew) None))
+
+-- the mark of that number, or that there is none
+abbrev pub MarkOf : ℕ → Result Mark UnknownMark → Type 0
+MarkOf n r = MatchResult r (λ mark. read_mark n ≡ Some mark) (λ e. (e.0 ≡ n) × (read_mark n ≡ None))
 
 abbrev pub unmarked : Record → Bool
 unmarked q = eqb q.marks.first 0 && eqb q.marks.second 0
@@ -93,68 +96,67 @@ pledge_tests h q =
     ∷ eqb q.blank 0
     ∷ []
 
--- ---- what a record asks for
+-- ---- what a record asks for; nothing, where it is refused 1
 
-abbrev pub trade_by : MarkRead → MarkRead → Record → Request
-trade_by (Known buying) (Known selling) q =
-    Trading (record { contract = q.contract; buyer = q.first; seller = q.second; buying = buying; selling = selling; price = price q.a; lots = lots q.b })
-trade_by (Known buying) Unknown q = Nothing
-trade_by Unknown selling q = Nothing
+abbrev pub trade_by : Option Mark → Option Mark → Record → Option Request
+trade_by (Some buying) (Some selling) q =
+    Some (Trading (record { contract = q.contract; buyer = q.first; seller = q.second; buying = buying; selling = selling; price = price q.a; lots = lots q.b }))
+trade_by (Some buying) None q = None
+trade_by None selling q = None
 
-unfoldable pub read_trade : Head → Record → Request
-read_trade h q = cond (all_of (trade_tests h q)) (trade_by (read_mark q.marks.first) (read_mark q.marks.second) q) Nothing
+unfoldable pub read_trade : Head → Record → Option Request
+read_trade h q = cond (all_of (trade_tests h q)) (trade_by (read_mark q.marks.first) (read_mark q.marks.second) q) None
 
-unfoldable pub read_pairing : Head → Record → Request
-read_pairing h q = cond (all_of (pairing_tests h q)) (PairingUp (record { contract = q.contract; buyer = q.first; seller = q.second; lots = lots q.b })) Nothing
+unfoldable pub read_pairing : Head → Record → Option Request
+read_pairing h q = cond (all_of (pairing_tests h q)) (Some (PairingUp (record { contract = q.contract; buyer = q.first; seller = q.second; lots = lots q.b }))) None
 
 abbrev pub payment : Record → Payment
 payment q = record { member = q.first; amount = fen (pos q.a) }
 
-unfoldable pub read_deposit : Head → Record → Request
-read_deposit h q = cond (all_of (payment_tests h q)) (Depositing (payment q)) Nothing
+unfoldable pub read_deposit : Head → Record → Option Request
+read_deposit h q = cond (all_of (payment_tests h q)) (Some (Depositing (payment q))) None
 
-unfoldable pub read_withdrawal : Head → Record → Request
-read_withdrawal h q = cond (all_of (payment_tests h q)) (Withdrawing (payment q)) Nothing
+unfoldable pub read_withdrawal : Head → Record → Option Request
+read_withdrawal h q = cond (all_of (payment_tests h q)) (Some (Withdrawing (payment q))) None
 
-unfoldable pub read_pledge : Head → Record → Request
-read_pledge h q = cond (all_of (pledge_tests h q)) (Pledging (record { member = q.first; market = fen (pos q.a); discount = q.b })) Nothing
+unfoldable pub read_pledge : Head → Record → Option Request
+read_pledge h q = cond (all_of (pledge_tests h q)) (Some (Pledging (record { member = q.first; market = fen (pos q.a); discount = q.b }))) None
 
 -- by the kind's number
-unfoldable pub read_kind : Head → Record → Request
+unfoldable pub read_kind : Head → Record → Option Request
 read_kind h q =
     cond (eqb q.kind 1) (read_trade h q)
     (cond (eqb q.kind 2) (read_pairing h q)
     (cond (eqb q.kind 3) (read_deposit h q)
     (cond (eqb q.kind 4) (read_withdrawal h q)
     (cond (eqb q.kind 5) (read_pledge h q)
-    Nothing))))
+    None))))
 
--- nothing, where the record is refused 1
-unfoldable pub request_of : Head → List ℕ → Request
-request_of h r = cond (eqb (length r) record_size) (read_kind h (record_at r)) Nothing
+unfoldable pub request_of : Head → List ℕ → Option Request
+request_of h r = cond (eqb (length r) record_size) (read_kind h (record_at r)) None
 
 -- ---- whom it names, and where their accounts stand
 
-abbrev pub names_of : Request → List ℕ
-names_of (Trading t) = t.buyer ∷ t.seller ∷ []
-names_of (PairingUp p) = p.buyer ∷ p.seller ∷ []
-names_of (Depositing p) = p.member ∷ []
-names_of (Withdrawing p) = p.member ∷ []
-names_of (Pledging p) = p.member ∷ []
-names_of Nothing = []
+abbrev pub names_of : Option Request → List ℕ
+names_of (Some (Trading t)) = t.buyer ∷ t.seller ∷ []
+names_of (Some (PairingUp p)) = p.buyer ∷ p.seller ∷ []
+names_of (Some (Depositing p)) = p.member ∷ []
+names_of (Some (Withdrawing p)) = p.member ∷ []
+names_of (Some (Pledging p)) = p.member ∷ []
+names_of None = []
 
 -- the record's contract; 0 where it has none
-abbrev pub contract_of : Request → ℕ
-contract_of (Trading t) = t.contract
-contract_of (PairingUp p) = p.contract
-contract_of (Depositing p) = 0
-contract_of (Withdrawing p) = 0
-contract_of (Pledging p) = 0
-contract_of Nothing = 0
+abbrev pub contract_of : Option Request → ℕ
+contract_of (Some (Trading t)) = t.contract
+contract_of (Some (PairingUp p)) = p.contract
+contract_of (Some (Depositing p)) = 0
+contract_of (Some (Withdrawing p)) = 0
+contract_of (Some (Pledging p)) = 0
+contract_of None = 0
 
 abbrev pub places_in : ℕ → List ℕ → List Place
 places_in j [] = []
 places_in j (m ∷ ms) = place m j ∷ places_in j ms
 
-abbrev pub places_for : Request → List Place
+abbrev pub places_for : Option Request → List Place
 places_for q = places_in (contract_of q) (names_of q)

@@ -14,30 +14,9 @@ pub enum Entry {
     Pledges(Pledge),
 }
 
-// What is decided of an account: the refusal number, or the account after the entry.
-#[derive(Clone, Copy)]
-pub enum Outcome {
-    Refused(u8),
-    Done(Account),
-}
-
-// The number, and the account as it stands then: as it stood, where the number is a refusal.
+// The number, and the account as it stands then. No function hands one out: the definition `posted_of` and the theorems `thin_meets` and `lent_meets` speak of it.
 #[derive(Clone, Copy)]
 pub struct Posted {
     pub answer: u8,
     pub account: Account,
-}
-
-// Which side of a position.
-#[derive(Clone, Copy)]
-pub enum Way {
-    Long,
-    Short,
-}
-
-// Who in a trade.
-#[derive(Clone, Copy)]
-pub enum Party {
-    Buyer,
-    Seller,
 }

@@ -1,155 +1,160 @@
 // What a trade and a pairing do to one side of a position, and what they ask of it.
 ghost use Rattle.std.specs.Prelude.{◌≡◌, true, ◌*◌, ◌^◌, ◌≤◌};
 ghost use Rattle.numbers.specs.Range.{In};
-ghost use Rattle.rules.specs.Units.{lots};
-ghost use Rattle.book.specs.Positions.{held_of};
 ghost use Rattle.validity.specs.Totals.{SideIn};
-ghost use Rattle.posting.specs.Fills.{way_of, side_on, with_side, marked, paired_up, paid, dealt, enough, roomy, free};
-ghost use Rattle.posting.specs.Ranges.{DealtIn};
 
-use crate::accounts::{Party, Way};
 use crate::records::Mark;
 use book::positions::{Position, Side};
 use rules::units::{Fen, Lots, Price};
+use validity::sides::held;
 
-pub fn way_of(party: Party, mark: Mark) -> Way
-    ensures { result ≡ way_of party mark }
-{
-    match party {
-        Party::Buyer => match mark {
-            Mark::Opens => Way::Long,
-            Mark::ClosesOld => Way::Short,
-            Mark::ClosesNew => Way::Short,
-        },
-        Party::Seller => match mark {
-            Mark::Opens => Way::Short,
-            Mark::ClosesOld => Way::Long,
-            Mark::ClosesNew => Way::Long,
-        },
-    }
+// Which side of a position.
+#[derive(Clone, Copy, Debug, PartialEq, Eq)]
+pub enum Way {
+    Long,
+    Short,
 }
 
-pub fn side_on(way: Way, p: Position) -> Side
-    ensures { result ≡ side_on way p }
-{
-    match way {
-        Way::Long => p.long,
-        Way::Short => p.short,
-    }
+// Who in a trade.
+#[derive(Clone, Copy, Debug, PartialEq, Eq)]
+pub enum Party {
+    Buyer,
+    Seller,
 }
 
-pub fn with_side(way: Way, s: Side, p: Position) -> Position
-    ensures { result ≡ with_side way s p }
-{
-    let mut q = p;
-    match way {
-        Way::Long => {
-            q.long = s;
-            q
+impl Way {
+    ghost use Rattle.posting.specs.Fills.{side_on, with_side};
+
+    pub fn side(self, p: Position) -> Side
+        ensures { result ≡ side_on self p }
+    {
+        match self {
+            Way::Long => p.long,
+            Way::Short => p.short,
         }
-        Way::Short => {
-            q.short = s;
-            q
+    }
+
+    pub fn with(self, s: Side, p: Position) -> Position
+        ensures { result ≡ with_side self s p }
+    {
+        match self {
+            Way::Long => Position { long: s, ..p },
+            Way::Short => Position { short: s, ..p },
         }
     }
 }
 
-pub fn held(s: Side) -> Lots
-    requires { SideIn s }
-    ensures { result ≡ lots (held_of s) }
-{
-    Lots(s.opening.0 - s.closed.0 + s.new.0)
-}
+impl Party {
+    ghost use Rattle.posting.specs.Fills.{way_of, paid};
 
-fn marked(mark: Mark, n: Lots, s: Side) -> Side
-    requires { SideIn s × (n.0 ≤ 10_000) × (enough mark n.0 s ≡ true) }
-    ensures { result ≡ marked mark n.0 s }
-{
-    let mut t = s;
-    match mark {
-        Mark::Opens => {
-            let new = s.new.0 + n.0;
-            t.new.0 = new;
-            t
+    pub fn way(self, mark: Mark) -> Way
+        ensures { result ≡ way_of self mark }
+    {
+        match (self, mark) {
+            (Party::Buyer, Mark::Opens) => Way::Long,
+            (Party::Buyer, Mark::ClosesOld | Mark::ClosesNew) => Way::Short,
+            (Party::Seller, Mark::Opens) => Way::Short,
+            (Party::Seller, Mark::ClosesOld | Mark::ClosesNew) => Way::Long,
         }
-        Mark::ClosesOld => {
-            let closed = s.closed.0 + n.0;
-            t.closed.0 = closed;
-            t
-        }
-        Mark::ClosesNew => {
-            let new = s.new.0 - n.0;
-            t.new.0 = new;
-            t
+    }
+
+    fn paid(self, price: Price, n: Lots, cash: Fen) -> Fen
+        requires { In (2 * 10 ^ 15) cash.0 × (price.0 ≤ 10_000_000) × (n.0 ≤ 10_000) }
+        ensures { result ≡ paid self price n cash }
+    {
+        let amount = i64::from(n.0) * i64::from(price.0);
+        match self {
+            Party::Buyer => Fen(cash.0 - amount),
+            Party::Seller => Fen(cash.0 + amount),
         }
     }
 }
 
-pub fn paired_up(n: Lots, s: Side) -> Side
-    requires { SideIn s × (n.0 ≤ 10_000) }
-    ensures { result ≡ paired_up n.0 s }
-{
-    let mut t = s;
-    let paired = s.paired.0 + n.0;
-    t.paired.0 = paired;
-    t
+/// Lots of a record, and the side of a position on which they fall.
+#[derive(Clone, Copy)]
+pub struct Fill {
+    pub lots: Lots,
+    pub side: Side,
+    ghost few: { lots.0 ≤ 10_000 },
+    ghost side_in: { SideIn side },
 }
 
-fn paid(party: Party, price: Price, n: Lots, cash: Fen) -> Fen
-    requires { In (2 * 10 ^ 15) cash.0 × (price.0 ≤ 10_000_000) × (n.0 ≤ 10_000) }
-    ensures { result ≡ paid party price n cash }
-{
-    let amount = (n.0 as i64) * (price.0 as i64);
-    match party {
-        Party::Buyer => Fen(cash.0 - amount),
-        Party::Seller => Fen(cash.0 + amount),
+impl Fill {
+    ghost use Rattle.posting.specs.Fills.{marked, paired_up, enough, roomy, free};
+
+    pub fn marked(self, mark: Mark) -> Side
+        requires { enough mark self.lots.0 self.side ≡ true }
+        ensures { result ≡ marked mark self.lots.0 self.side }
+    {
+        let n = self.lots.0;
+        let s = self.side;
+        match mark {
+            Mark::Opens => Side {
+                new: Lots(s.new.0 + n),
+                ..s
+            },
+            Mark::ClosesOld => Side {
+                closed: Lots(s.closed.0 + n),
+                ..s
+            },
+            Mark::ClosesNew => Side {
+                new: Lots(s.new.0 - n),
+                ..s
+            },
+        }
+    }
+
+    pub fn paired_up(self) -> Side
+        ensures { result ≡ paired_up self.lots.0 self.side }
+    {
+        Side {
+            paired: Lots(self.side.paired.0 + self.lots.0),
+            ..self.side
+        }
+    }
+
+    pub fn enough(self, mark: Mark) -> bool
+        ensures { result ≡ enough mark self.lots.0 self.side }
+    {
+        let s = self.side;
+        match mark {
+            Mark::Opens => true,
+            Mark::ClosesOld => (self.lots.0 <= s.opening.0 - s.closed.0) & self.free(),
+            Mark::ClosesNew => (self.lots.0 <= s.new.0) & self.free(),
+        }
+    }
+
+    pub fn roomy(self, mark: Mark) -> bool
+        ensures { result ≡ roomy mark self.lots.0 self.side }
+    {
+        match mark {
+            Mark::Opens => held(self.side).0 + self.lots.0 <= 100_000,
+            Mark::ClosesOld | Mark::ClosesNew => true,
+        }
+    }
+
+    pub fn free(self) -> bool
+        ensures { result ≡ free self.lots.0 self.side }
+    {
+        self.side.paired.0 + self.lots.0 <= held(self.side).0
     }
 }
+
+ghost use Rattle.posting.specs.Fills.{way_of, side_on, dealt, enough};
+ghost use Rattle.posting.specs.Ranges.{DealtIn};
 
 pub fn dealt(party: Party, mark: Mark, price: Price, n: Lots, p: Position) -> Position
     requires { DealtIn p × (price.0 ≤ 10_000_000) × (n.0 ≤ 10_000) × (enough mark n.0 (side_on (way_of party mark) p) ≡ true) }
     ensures { result ≡ dealt party mark price n p }
 {
-    let way = way_of(party, mark);
-    let side = marked(mark, n, side_on(way, p));
-    let cash = paid(party, price, n, p.cash);
-    let traded = p.traded.0 + n.0;
-    let mut q = with_side(way, side, p);
-    q.cash = cash;
-    q.traded.0 = traded;
-    q
-}
-
-pub fn enough(mark: Mark, n: Lots, s: Side) -> bool
-    requires { SideIn s × (n.0 ≤ 10_000) }
-    ensures { result ≡ enough mark n.0 s }
-{
-    let held = held(s);
-    let left = s.paired.0 + n.0 <= held.0;
-    match mark {
-        Mark::Opens => true,
-        Mark::ClosesOld => (n.0 <= s.opening.0 - s.closed.0) & left,
-        Mark::ClosesNew => (n.0 <= s.new.0) & left,
+    let way = party.way(mark);
+    let fill = Fill {
+        lots: n,
+        side: way.side(p),
+    };
+    Position {
+        cash: party.paid(price, n, p.cash),
+        traded: Lots(p.traded.0 + n.0),
+        ..way.with(fill.marked(mark), p)
     }
-}
-
-pub fn roomy(mark: Mark, n: Lots, s: Side) -> bool
-    requires { SideIn s × (n.0 ≤ 10_000) }
-    ensures { result ≡ roomy mark n.0 s }
-{
-    let held = held(s);
-    let fits = held.0 + n.0 <= 100_000;
-    match mark {
-        Mark::Opens => fits,
-        Mark::ClosesOld => true,
-        Mark::ClosesNew => true,
-    }
-}
-
-pub fn free(n: Lots, s: Side) -> bool
-    requires { SideIn s × (n.0 ≤ 10_000) }
-    ensures { result ≡ free n.0 s }
-{
-    let held = held(s);
-    s.paired.0 + n.0 <= held.0
 }

@@ -1,4 +1,4 @@
-// Day records: read, decided by value over the accounts that they name, and put back.
+// Day records: read, and decided by value over the accounts that they name.
 #![tactic(auto)]
 
 pub mod accounts;

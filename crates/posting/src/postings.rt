@@ -1,301 +1,253 @@
-// What a record asks of one account that it names, decided by value: refused by number, or the account after it.
-ghost use Rattle.std.specs.Prelude.{◌≡◌, true, cond, ◌^◌, ◌≤◌};
+// What a record asks of one account that it names, decided by value: refused, or the account after it.
+ghost use Rattle.std.specs.Prelude.{◌≡◌, true, ◌^◌, ◌≤◌, cond, Ok, IfOk};
 ghost use Rattle.numbers.specs.Range.{In};
+ghost use Rattle.rules.specs.Refusals.{refusal_number, answered};
 ghost use Rattle.posting.specs.Fills.{way_of, side_on, enough};
-ghost use Rattle.posting.specs.Postings.{counted, moved, traded, paired_on, deposited, withdrawn, pledged, full, barred, above, fewer, beyond, scarce, deposit_answer, withdrawal_answer, pledge_answer};
-ghost use Rattle.posting.specs.Entries.{side_answer, paired_answer, entry_answer, entered, decided_of, posted_of, lower};
+ghost use Rattle.posting.specs.Postings.{counted, moved, traded, paired_on, deposited, withdrawn, pledged, full, barred, above, withdrawal_answer};
+ghost use Rattle.posting.specs.Entries.{side_answer, paired_answer, entry_answer, entered, lower};
 ghost use Rattle.posting.specs.Ranges.{AccountIn, EntryIn, PostedIn};
 
-use crate::accounts::{Entry, Outcome, Party, Posted, Way};
-use crate::fills;
+use crate::accounts::Entry;
+use crate::fills::{self, Fill, Party, Way};
 use crate::records::{Mark, Pairing, Payment, Pledge, Trade};
 use book::accounts::Account;
 use book::members::{Day, Member, Securities};
 use book::positions::Position;
-use rules::units::Fen;
+use rules::refusals::Refusal;
+use rules::units::{Fen, Lots};
 
-// The first rule that holds: its number, else what the rest says.
-fn first(test: bool, number: u8, rest: u8) -> u8
-    ensures { result ≡ cond test number rest }
+// A rule: refused where the test holds.
+fn refuse(test: bool, refusal: Refusal) -> Result<(), Refusal>
+    ensures { answered result ≡ cond test (refusal_number refusal) 0 }
 {
-    if test { number } else { rest }
-}
-
-fn full(a: Account) -> bool
-    ensures { result ≡ full a }
-{
-    20_000 <= a.member.accepted
-}
-
-fn barred(mark: Mark, a: Account) -> bool
-    requires { AccountIn a }
-    ensures { result ≡ barred mark a }
-{
-    let member = a.member;
-    let kind = member.kind;
-    let minimum = kind.minimum();
-    let money = member.figures.reserve.0 + member.day.deposits.0 - member.day.withdrawals.0;
-    let below = money < minimum.0;
-    match mark {
-        Mark::Opens => below,
-        Mark::ClosesOld => false,
-        Mark::ClosesNew => false,
-    }
-}
-
-fn above(p: Payment, a: Account) -> bool
-    requires { AccountIn a }
-    ensures { result ≡ above p a }
-{
-    let member = a.member;
-    let kind = member.kind;
-    let figures = member.figures;
-    let deposits = member.day.deposits;
-    let withdrawals = member.day.withdrawals;
-    let left = rules::money::room_left(kind, figures, deposits, withdrawals);
-    left.0 < p.amount.0
-}
-
-fn fewer(party: Party, mark: Mark, t: Trade, a: Account) -> bool
-    requires { AccountIn a × (t.lots.0 ≤ 10_000) }
-    ensures { result ≡ fewer party mark t a }
-{
-    let position = a.position;
-    let side = fills::side_on(fills::way_of(party, mark), position);
-    !fills::enough(mark, t.lots, side)
-}
-
-fn beyond(party: Party, mark: Mark, t: Trade, a: Account) -> bool
-    requires { AccountIn a × (t.lots.0 ≤ 10_000) }
-    ensures { result ≡ beyond party mark t a }
-{
-    let position = a.position;
-    let side = fills::side_on(fills::way_of(party, mark), position);
-    !fills::roomy(mark, t.lots, side)
-}
-
-fn scarce(way: Way, p: Pairing, a: Account) -> bool
-    requires { AccountIn a × (p.lots.0 ≤ 10_000) }
-    ensures { result ≡ scarce way p a }
-{
-    let position = a.position;
-    !fills::free(p.lots, fills::side_on(way, position))
-}
-
-// The rules of one side of a trade.
-#[tactic(auto, unfolding(crate::specs::Entries::side_answer))]
-fn side_answer(party: Party, mark: Mark, t: Trade, a: Account) -> u8
-    requires { AccountIn a × (t.lots.0 ≤ 10_000) }
-    ensures { result ≡ side_answer party mark t a }
-{
-    let wide = first(beyond(party, mark, t, a), 5, 0);
-    let lacking = first(fewer(party, mark, t, a), 4, wide);
-    let poor = first(barred(mark, a), 3, lacking);
-    first(full(a), 2, poor)
-}
-
-// The rules of one side of a pairing.
-#[tactic(auto, unfolding(crate::specs::Entries::paired_answer))]
-fn pairing_answer(way: Way, p: Pairing, a: Account) -> u8
-    requires { AccountIn a × (p.lots.0 ≤ 10_000) }
-    ensures { result ≡ paired_answer way p a }
-{
-    first(full(a), 2, first(scarce(way, p, a), 7, 0))
-}
-
-#[tactic(auto, unfolding(crate::specs::Postings::deposit_answer))]
-fn deposit_answer(p: Payment, a: Account) -> u8
-    ensures { result ≡ deposit_answer p a }
-{
-    first(full(a), 2, 0)
-}
-
-#[tactic(auto, unfolding(crate::specs::Postings::pledge_answer))]
-fn pledge_answer(p: Pledge, a: Account) -> u8
-    ensures { result ≡ pledge_answer p a }
-{
-    first(full(a), 2, 0)
-}
-
-#[tactic(auto, unfolding(crate::specs::Postings::withdrawal_answer))]
-fn withdrawal_answer(p: Payment, a: Account) -> u8
-    requires { AccountIn a }
-    ensures { result ≡ withdrawal_answer p a }
-{
-    first(full(a), 2, first(above(p, a), 6, 0))
+    if test { Err(refusal) } else { Ok(()) }
 }
 
 // One more accepted record.
-fn counted(m: Member, c: Securities, d: Day) -> Member
+fn counted(m: Member, securities: Securities, day: Day) -> Member
     requires { m.accepted ≤ 20_000 }
-    ensures { result ≡ counted c d m }
+    ensures { result ≡ counted securities day m }
 {
-    let mut n = m;
-    let accepted = m.accepted + 1;
-    n.accepted = accepted;
-    n.securities = c;
-    n.day = d;
-    n
-}
-
-fn moved(p: Position, a: Account) -> Account
-    requires { a.member.accepted ≤ 20_000 }
-    ensures { result ≡ moved p a }
-{
-    let member = a.member;
-    let securities = member.securities;
-    let day = member.day;
-    Account {
-        member: counted(member, securities, day),
-        position: p,
+    Member {
+        accepted: m.accepted + 1,
+        securities,
+        day,
+        ..m
     }
 }
 
-fn traded(party: Party, mark: Mark, t: Trade, a: Account) -> Account
-    requires { AccountIn a × (t.price.0 ≤ 10_000_000) × (t.lots.0 ≤ 10_000) × (enough mark t.lots.0 (side_on (way_of party mark) a.position) ≡ true) }
-    ensures { result ≡ traded party mark t a }
-{
-    let position = a.position;
-    moved(fills::dealt(party, mark, t.price, t.lots, position), a)
+// An account of a valid book.
+#[derive(Clone, Copy)]
+struct ValidAccount {
+    account: Account,
+    ghost range: { AccountIn account },
 }
 
-fn paired_on(way: Way, p: Pairing, a: Account) -> Account
-    requires { AccountIn a × (p.lots.0 ≤ 10_000) }
-    ensures { result ≡ paired_on way p a }
-{
-    let position = a.position;
-    let side = fills::paired_up(p.lots, fills::side_on(way, position));
-    moved(fills::with_side(way, side, position), a)
-}
+// The rules, each by its definition's name.
+impl ValidAccount {
+    fn full(self) -> bool
+        ensures { result ≡ full self.account }
+    {
+        20_000 <= self.account.member.accepted
+    }
 
-fn deposited(p: Payment, a: Account) -> Account
-    requires { AccountIn a × In (10 ^ 12) p.amount.0 }
-    ensures { result ≡ deposited p a }
-{
-    let member = a.member;
-    let securities = member.securities;
-    let mut day = member.day;
-    let deposits = Fen(day.deposits.0 + p.amount.0);
-    day.deposits = deposits;
-    let next = counted(member, securities, day);
-    let mut after = a;
-    after.member = next;
-    after
-}
-
-fn withdrawn(p: Payment, a: Account) -> Account
-    requires { AccountIn a × In (10 ^ 12) p.amount.0 }
-    ensures { result ≡ withdrawn p a }
-{
-    let member = a.member;
-    let securities = member.securities;
-    let mut day = member.day;
-    let withdrawals = Fen(day.withdrawals.0 + p.amount.0);
-    day.withdrawals = withdrawals;
-    let next = counted(member, securities, day);
-    let mut after = a;
-    after.member = next;
-    after
-}
-
-fn pledged(p: Pledge, a: Account) -> Account
-    requires { AccountIn a }
-    ensures { result ≡ pledged p a }
-{
-    let member = a.member;
-    let day = member.day;
-    let market = p.market;
-    let securities = Securities {
-        market,
-        discount: p.discount,
-    };
-    let next = counted(member, securities, day);
-    let mut after = a;
-    after.member = next;
-    after
-}
-
-// The first rule of an entry that holds of its account.
-fn answer_of(a: Account, e: Entry) -> u8
-    requires { AccountIn a × EntryIn e }
-    ensures { result ≡ entry_answer e a }
-{
-    match e {
-        Entry::Buys(t) => {
-            let mark = t.buying;
-            side_answer(Party::Buyer, mark, t, a)
+    fn barred(self, mark: Mark) -> bool
+        ensures { result ≡ barred mark self.account }
+    {
+        let member = self.account.member;
+        let minimum = member.kind.minimum();
+        let money = member.figures.reserve.0 + member.day.deposits.0 - member.day.withdrawals.0;
+        let below = money < minimum.0;
+        match mark {
+            Mark::Opens => below,
+            Mark::ClosesOld | Mark::ClosesNew => false,
         }
-        Entry::Sells(t) => {
-            let mark = t.selling;
-            side_answer(Party::Seller, mark, t, a)
+    }
+
+    fn above(self, p: Payment) -> bool
+        ensures { result ≡ above p self.account }
+    {
+        let member = self.account.member;
+        let left = rules::money::room_left(
+            member.kind,
+            member.figures,
+            member.day.deposits,
+            member.day.withdrawals,
+        );
+        left.0 < p.amount.0
+    }
+
+    fn fill(self, way: Way, lots: Lots) -> Fill
+        requires { lots.0 ≤ 10_000 }
+        ensures { (result.lots ≡ lots) × (result.side ≡ side_on way self.account.position) }
+    {
+        Fill {
+            lots,
+            side: way.side(self.account.position),
         }
-        Entry::Receives(p) => pairing_answer(Way::Long, p, a),
-        Entry::Delivers(p) => pairing_answer(Way::Short, p, a),
-        Entry::PaysIn(p) => deposit_answer(p, a),
-        Entry::TakesOut(p) => withdrawal_answer(p, a),
-        Entry::Pledges(p) => pledge_answer(p, a),
     }
 }
 
-// The account after an entry that no rule refuses.
-fn entered(a: Account, e: Entry) -> Account
-    requires { AccountIn a × EntryIn e × (entry_answer e a ≡ 0) }
-    ensures { result ≡ entered e a }
-{
-    match e {
-        Entry::Buys(t) => {
-            let mark = t.buying;
-            traded(Party::Buyer, mark, t, a)
+// The rules of each entry, in their order.
+impl ValidAccount {
+    #[tactic(auto, unfolding(crate::specs::Entries::side_answer))]
+    fn check_side(self, party: Party, mark: Mark, t: Trade) -> Result<(), Refusal>
+        requires { t.lots.0 ≤ 10_000 }
+        ensures { answered result ≡ side_answer party mark t self.account }
+    {
+        let fill = self.fill(party.way(mark), t.lots);
+        refuse(self.full(), Refusal::ManyRecords)?;
+        refuse(self.barred(mark), Refusal::BelowMinimum)?;
+        refuse(!fill.enough(mark), Refusal::FewLots)?;
+        refuse(!fill.roomy(mark), Refusal::ManyLots)
+    }
+
+    #[tactic(auto, unfolding(crate::specs::Entries::paired_answer))]
+    fn check_pairing(self, way: Way, p: Pairing) -> Result<(), Refusal>
+        requires { p.lots.0 ≤ 10_000 }
+        ensures { answered result ≡ paired_answer way p self.account }
+    {
+        refuse(self.full(), Refusal::ManyRecords)?;
+        refuse(!self.fill(way, p.lots).free(), Refusal::FewUnpaired)
+    }
+
+    #[tactic(auto, unfolding(crate::specs::Postings::withdrawal_answer))]
+    fn check_withdrawal(self, p: Payment) -> Result<(), Refusal>
+        ensures { answered result ≡ withdrawal_answer p self.account }
+    {
+        refuse(self.full(), Refusal::ManyRecords)?;
+        refuse(self.above(p), Refusal::AboveRoom)
+    }
+
+    #[tactic(auto, unfolding(crate::specs::Postings::deposit_answer, crate::specs::Postings::pledge_answer))]
+    fn check(self, e: Entry) -> Result<(), Refusal>
+        requires { EntryIn e }
+        ensures { answered result ≡ entry_answer e self.account }
+    {
+        match e {
+            Entry::Buys(t) => self.check_side(Party::Buyer, t.buying, t),
+            Entry::Sells(t) => self.check_side(Party::Seller, t.selling, t),
+            Entry::Receives(p) => self.check_pairing(Way::Long, p),
+            Entry::Delivers(p) => self.check_pairing(Way::Short, p),
+            Entry::TakesOut(p) => self.check_withdrawal(p),
+            Entry::PaysIn(_) | Entry::Pledges(_) => refuse(self.full(), Refusal::ManyRecords),
         }
-        Entry::Sells(t) => {
-            let mark = t.selling;
-            traded(Party::Seller, mark, t, a)
-        }
-        Entry::Receives(p) => paired_on(Way::Long, p, a),
-        Entry::Delivers(p) => paired_on(Way::Short, p, a),
-        Entry::PaysIn(p) => deposited(p, a),
-        Entry::TakesOut(p) => withdrawn(p, a),
-        Entry::Pledges(p) => pledged(p, a),
     }
 }
 
-pub fn decided(a: Account, e: Entry) -> Outcome
+// The account after each entry.
+impl ValidAccount {
+    fn moved(self, p: Position) -> Account
+        ensures { result ≡ moved p self.account }
+    {
+        let member = self.account.member;
+        Account {
+            member: counted(member, member.securities, member.day),
+            position: p,
+        }
+    }
+
+    fn kept(self, securities: Securities, day: Day) -> Account
+        ensures { (result.member ≡ counted securities day self.account.member) × (result.position ≡ self.account.position) }
+    {
+        Account {
+            member: counted(self.account.member, securities, day),
+            position: self.account.position,
+        }
+    }
+
+    fn traded(self, party: Party, mark: Mark, t: Trade) -> Account
+        requires { (t.price.0 ≤ 10_000_000) × (t.lots.0 ≤ 10_000) × (enough mark t.lots.0 (side_on (way_of party mark) self.account.position) ≡ true) }
+        ensures { result ≡ traded party mark t self.account }
+    {
+        self.moved(fills::dealt(party, mark, t.price, t.lots, self.account.position))
+    }
+
+    fn paired_on(self, way: Way, p: Pairing) -> Account
+        requires { p.lots.0 ≤ 10_000 }
+        ensures { result ≡ paired_on way p self.account }
+    {
+        let side = self.fill(way, p.lots).paired_up();
+        self.moved(way.with(side, self.account.position))
+    }
+
+    // A deposit and a withdrawal differ in the field that grows: with a closure for it each would be as long.
+    fn deposited(self, p: Payment) -> Account
+        requires { In (10 ^ 12) p.amount.0 }
+        ensures { result ≡ deposited p self.account }
+    {
+        let Member {
+            securities,
+            day,
+            ..
+        } = self.account.member;
+        let deposits = Fen(day.deposits.0 + p.amount.0);
+        self.kept(securities, Day { deposits, ..day })
+    }
+
+    fn withdrawn(self, p: Payment) -> Account
+        requires { In (10 ^ 12) p.amount.0 }
+        ensures { result ≡ withdrawn p self.account }
+    {
+        let Member {
+            securities,
+            day,
+            ..
+        } = self.account.member;
+        let withdrawals = Fen(day.withdrawals.0 + p.amount.0);
+        self.kept(securities, Day { withdrawals, ..day })
+    }
+
+    fn pledged(self, p: Pledge) -> Account
+        ensures { result ≡ pledged p self.account }
+    {
+        let securities = Securities {
+            market: p.market,
+            discount: p.discount,
+        };
+        self.kept(securities, self.account.member.day)
+    }
+
+    fn entered(self, e: Entry) -> Account
+        requires { EntryIn e × (entry_answer e self.account ≡ 0) }
+        ensures { result ≡ entered e self.account }
+    {
+        match e {
+            Entry::Buys(t) => self.traded(Party::Buyer, t.buying, t),
+            Entry::Sells(t) => self.traded(Party::Seller, t.selling, t),
+            Entry::Receives(p) => self.paired_on(Way::Long, p),
+            Entry::Delivers(p) => self.paired_on(Way::Short, p),
+            Entry::PaysIn(p) => self.deposited(p),
+            Entry::TakesOut(p) => self.withdrawn(p),
+            Entry::Pledges(p) => self.pledged(p),
+        }
+    }
+}
+
+/// The account after an entry that no rule refuses, or the first rule that does.
+pub fn decided(a: Account, e: Entry) -> Result<Account, Refusal>
     requires { PostedIn a e }
-    ensures { result ≡ decided_of a e }
+    ensures value { answered result ≡ entry_answer e a }
+    ensures account { IfOk result (λ b. b ≡ entered e a) }
 {
-    let n = answer_of(a, e);
-    if n != 0 {
-        return Outcome::Refused(n);
-    }
-    Outcome::Done(entered(a, e))
+    let account = ValidAccount { account: a };
+    account.check(e)?;
+    Ok(account.entered(e))
 }
 
-// The outcome is taken apart here, so that the thin posting has no branch.
-pub fn posting_of(a: Account, e: Entry) -> Posted
-    requires { PostedIn a e }
-    ensures { result ≡ posted_of a e }
+/// What two accounts of a record come to: both, or the lower of their refusals.
+pub fn both<A: Copy, B: Copy>(
+    one: Result<A, Refusal>,
+    other: Result<B, Refusal>,
+) -> Result<(A, B), Refusal>
+    ensures value { answered result ≡ lower (answered one) (answered other) }
+    ensures ok { IfOk result (λ r. (one ≡ Ok r.0) × (other ≡ Ok r.1)) }
 {
-    match decided(a, e) {
-        Outcome::Refused(n) => Posted {
-            answer: n,
-            account: a,
-        },
-        Outcome::Done(b) => Posted {
-            answer: 0,
-            account: b,
-        },
+    match (one, other) {
+        (Ok(a), Ok(b)) => Ok((a, b)),
+        (Err(m), Ok(_)) => Err(m),
+        (Ok(_), Err(n)) => Err(n),
+        // By `<=`: that `min` of the derived order is the lower number did not prove.
+        (Err(m), Err(n)) => Err(if m <= n { m } else { n }),
     }
-}
-
-// The answer to a record that names two accounts: the lower of their refusals.
-pub fn lower(m: u8, n: u8) -> u8
-    ensures { result ≡ lower m n }
-{
-    if m == 0 {
-        return n;
-    }
-    if n == 0 {
-        return m;
-    }
-    if m <= n { m } else { n }
 }

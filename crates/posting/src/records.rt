@@ -21,17 +21,64 @@ pub struct Record {
     pub b: u64,
 }
 
-#[derive(Clone, Copy)]
+#[derive(Clone, Copy, Debug, PartialEq, Eq)]
+pub enum Kind {
+    Trade,
+    Pairing,
+    Deposit,
+    Withdrawal,
+    Pledge,
+}
+
+/// A number that is no kind of record.
+#[derive(Clone, Copy, Debug, PartialEq, Eq)]
+pub struct UnknownKind(pub u8);
+
+impl TryFrom<u8> for Kind {
+    type Error = UnknownKind;
+
+    ghost use Rattle.posting.specs.Kinds.{KindOf};
+
+    ghost try_from_gives = { KindOf };
+
+    fn try_from(number: u8) -> Result<Self, UnknownKind> {
+        match number {
+            1 => Ok(Kind::Trade),
+            2 => Ok(Kind::Pairing),
+            3 => Ok(Kind::Deposit),
+            4 => Ok(Kind::Withdrawal),
+            5 => Ok(Kind::Pledge),
+            0 | 6..=255 => Err(UnknownKind(number)),
+        }
+    }
+}
+
+#[derive(Clone, Copy, Debug, PartialEq, Eq)]
 pub enum Mark {
     Opens,
     ClosesOld,
     ClosesNew,
 }
 
-#[derive(Clone, Copy)]
-pub enum MarkRead {
-    Known(Mark),
-    Unknown,
+/// A number that is no mark.
+#[derive(Clone, Copy, Debug, PartialEq, Eq)]
+pub struct UnknownMark(pub u8);
+
+impl TryFrom<u8> for Mark {
+    type Error = UnknownMark;
+
+    ghost use Rattle.posting.specs.Records.{MarkOf};
+
+    ghost try_from_gives = { MarkOf };
+
+    fn try_from(number: u8) -> Result<Self, UnknownMark> {
+        match number {
+            0 => Ok(Mark::Opens),
+            1 => Ok(Mark::ClosesOld),
+            2 => Ok(Mark::ClosesNew),
+            3..=255 => Err(UnknownMark(number)),
+        }
+    }
 }
 
 #[derive(Clone, Copy)]
@@ -67,7 +114,7 @@ pub struct Pledge {
     pub discount: u64,
 }
 
-// What a record asks for; nothing, where it is refused 1.
+// What a record asks for.
 #[derive(Clone, Copy)]
 pub enum Request {
     Trading(Trade),
@@ -75,5 +122,4 @@ pub enum Request {
     Depositing(Payment),
     Withdrawing(Payment),
     Pledging(Pledge),
-    Nothing,
 }

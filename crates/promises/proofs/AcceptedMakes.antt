@@ -7,6 +7,7 @@ use Rattle.folds.specs.First.{on_zero}
 use Rattle.order.specs.Lens as lens
 use Rattle.book.specs.declared.accounts.Account.{Account}
 use Rattle.book.specs.Heads.{head_at}
+use Rattle.std.specs.Prelude.{Option}
 use Rattle.posting.specs.declared.records.Request.{Request}
 use Rattle.posting.specs.Records.{request_of, places_for}
 use Rattle.posting.specs.Answers.{accounts, answer, after}
@@ -23,9 +24,9 @@ pub both : {a c a' c' : Account} (n : ℕ) → n ≡ 0 → a ∷ c ∷ [] ≡ on
 both zero z e = ((cc), (cc))
 both (suc n) z e = absurd (omega arith)
 
-module _ (book r : List ℕ) (a : answer book r ≡ 0) {q : Request} (e : request_of (head_at book) r ≡ q) where
+module _ (book r : List ℕ) (a : answer book r ≡ 0) {q : Option Request} (e : request_of (head_at book) r ≡ q) where
   pub makes : lens.gets accounts (head_at book) (after book r) (places_for q) ≡ (posting_at (head_at book) book q).become
-  makes = subst (λ (x : Request). lens.gets accounts (head_at book) (after book r) (places_for x) ≡ (posting_at (head_at book) book x).become) e (accepted_makes book r a)
+  makes = subst (λ (x : Option Request). lens.gets accounts (head_at book) (after book r) (places_for x) ≡ (posting_at (head_at book) book x).become) e (accepted_makes book r a)
 
   pub accepted : (posting_at (head_at book) book q).says ≡ 0
-  accepted = subst (λ (x : Request). (posting_at (head_at book) book x).says ≡ 0) e (sym (valid_answer book r (accepted_valid book r a)) ∙ a)
+  accepted = subst (λ (x : Option Request). (posting_at (head_at book) book x).says ≡ 0) e (sym (valid_answer book r (accepted_valid book r a)) ∙ a)

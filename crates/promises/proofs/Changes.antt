@@ -34,10 +34,10 @@ use Rattle.posting.specs.declared.records.Trade.{Trade}
 use Rattle.posting.specs.declared.records.Pairing.{Pairing}
 use Rattle.posting.specs.declared.records.Payment.{Payment}
 use Rattle.posting.specs.declared.records.Pledge.{Pledge}
-use Rattle.posting.specs.declared.accounts.Way.{Way}
-use Rattle.posting.specs.declared.accounts.Way.TheVariants.{Long, Short}
-use Rattle.posting.specs.declared.accounts.Party.{Party}
-use Rattle.posting.specs.declared.accounts.Party.TheVariants.{Buyer, Seller}
+use Rattle.posting.specs.declared.fills.Way.{Way}
+use Rattle.posting.specs.declared.fills.Way.TheVariants.{Long, Short}
+use Rattle.posting.specs.declared.fills.Party.{Party}
+use Rattle.posting.specs.declared.fills.Party.TheVariants.{Buyer, Seller}
 use Rattle.posting.specs.Fills.{way_of, side_on, with_side, marked, paired_up, paid, dealt, enough, roomy, free}
 use Rattle.posting.specs.Postings.{counted, moved, traded, paired_on, deposited, withdrawn, pledged, trade_rules, pairing_rules, deposit_rules, withdrawal_rules, pledge_rules, trade_answer, pairing_answer, deposit_answer, withdrawal_answer, pledge_answer}
 use Rattle.promises.proofs.Sound.{Sound, Fine}

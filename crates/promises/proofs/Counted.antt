@@ -8,6 +8,7 @@ use Rattle.book.specs.Layout.{member_off}
 use Rattle.book.specs.Heads.{head_at}
 use Rattle.book.specs.Members.{member_at}
 use Rattle.book.specs.Accounts.{place, account_at}
+use Rattle.std.specs.Prelude.{Option}
 use Rattle.posting.specs.declared.records.Request.{Request}
 use Rattle.posting.specs.Records.{request_of, names_of}
 use Rattle.posting.specs.Postings.{trade_answer, pairing_answer, deposit_answer, withdrawal_answer, pledge_answer}
@@ -27,7 +28,7 @@ module _ (book r : List ℕ) (a : answer book r ≡ 0) where
   first_or_second x y m first second (Memᴰ.head e) = subst Counts (sym e) first
   first_or_second x y m first second (Memᴰ.tail i) = subst Counts (sym (Memᴰ.eq_of_singleton i)) second
 
-  by_request : {q : Request} → Formed (head_at book) q → request_of (head_at book) r ≡ q → (m : ℕ) → Memᴰ m (names_of q) → Counts m
+  by_request : {q : Option Request} → Formed (head_at book) q → request_of (head_at book) r ≡ q → (m : ℕ) → Memᴰ m (names_of q) → Counts m
   unfolding account_at
   by_request (trading {t} s price) e m i =
       let x : Account = account_at (head_at book) book (place t.buyer t.contract) in

@@ -17,9 +17,10 @@ use Rattle.book.specs.declared.accounts.Account.{Account}
 use Rattle.book.specs.Heads.{head_at}
 use Rattle.book.specs.Accounts.{place, account_at}
 use Rattle.validity.specs.Valid.{valid_book}
+use Rattle.std.specs.Prelude.{Option}
 use Rattle.posting.specs.declared.records.Request.{Request}
-use Rattle.posting.specs.declared.accounts.Way.TheVariants.{Long, Short}
-use Rattle.posting.specs.declared.accounts.Party.TheVariants.{Buyer, Seller}
+use Rattle.posting.specs.declared.fills.Way.TheVariants.{Long, Short}
+use Rattle.posting.specs.declared.fills.Party.TheVariants.{Buyer, Seller}
 use Rattle.posting.specs.Records.{request_of, names_of, contract_of}
 use Rattle.posting.specs.Postings.{trade_answer, pairing_answer, deposit_answer, withdrawal_answer, pledge_answer}
 use Rattle.posting.specs.Answers.{answer, after}
@@ -59,7 +60,7 @@ module _ (book r : List ℕ) (a : answer book r ≡ 0) (m j : ℕ) (lj : j < (he
   h = head_at book
 
   -- the request by another name
-  module _ {q : Request} (e : request_of h r ≡ q) where
+  module _ {q : Option Request} (e : request_of h r ≡ q) where
     off : j ≢ contract_of q → row_at h (after book r) m j ≡ row_at h book m j
     off ne = elsewhere_stays book r m j lj (λ z. ne (z ∙ ap contract_of e))
 
@@ -77,7 +78,7 @@ module _ (book r : List ℕ) (a : answer book r ≡ 0) (m j : ℕ) (lj : j < (he
     ]
 
   -- an accepted record moves the row by its own fills
-  by_request : {q : Request} → Formed h q → request_of h r ≡ q → Moves (row_at h book m j) (fills_of q m j) (row_at h (after book r) m j)
+  by_request : {q : Option Request} → Formed h q → request_of h r ≡ q → Moves (row_at h book m j) (fills_of q m j) (row_at h (after book r) m j)
   unfolding account_at
   by_request (trading {t} s price) e =
       let x : Account = account_at h book (place t.buyer t.contract) in

@@ -18,8 +18,8 @@ use Rattle.book.specs.declared.positions.Side.{Side}
 use Rattle.book.specs.declared.positions.Position.{Position}
 use Rattle.book.specs.Positions.{held_of}
 use Rattle.posting.specs.declared.records.Mark.TheVariants.{Opens, ClosesOld, ClosesNew}
-use Rattle.posting.specs.declared.accounts.Way.TheVariants.{Long, Short}
-use Rattle.posting.specs.declared.accounts.Party.TheVariants.{Buyer, Seller}
+use Rattle.posting.specs.declared.fills.Way.TheVariants.{Long, Short}
+use Rattle.posting.specs.declared.fills.Party.TheVariants.{Buyer, Seller}
 use Rattle.posting.specs.Fills.{way_of, side_on, with_side, paired_up, dealt, enough}
 use Rattle.promises.proofs.OnePrice.{many, sum_many}
 use Rattle.promises.specs.Dealings.{Fill, dealing, delivering, prices_of, traded_of, day_from}

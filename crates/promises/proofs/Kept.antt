@@ -20,6 +20,7 @@ use Rattle.validity.specs.Valid.{valid_book}
 use Rattle.validity.proofs.Fits.{member_fits}
 use Rattle.validity.proofs.SameHead.{head_kept}
 use Rattle.validity.proofs.AsFacts.{Rows}
+use Rattle.std.specs.Prelude.{Option}
 use Rattle.posting.specs.declared.records.Request.{Request}
 use Rattle.posting.specs.Answers.{accounts, step, after}
 use Rattle.posting.proofs.Requests.{Formed, formed}
@@ -65,7 +66,7 @@ keeps_made : {h : Head} {xs : List ℕ} {ps : List Place} {as' : List Account} �
 keeps_made o (one {p = p} {a = a} w s f same) = keeps_one p a o w f same
 keeps_made o (two {m} {m'} {j} {a} {c} w w' ne s s' f g n) = keeps_two m m' j a c o w w' (λ e. ne (sym e)) f g n
 
-step_whole : {h : Head} {xs : List ℕ} {q : Request} → Whole h xs → Formed h q → Whole h (step_of h xs q)
+step_whole : {h : Head} {xs : List ℕ} {q : Option Request} → Whole h xs → Formed h q → Whole h (step_of h xs q)
 step_whole {h} {xs} {q} o f = elim (ℕ_discrete (posting_at h xs q).says 0) [
   | yes e ↦ subst (Whole h) (sym (step_puts h xs q)) (keeps_made o (made o f e))
   | no n ↦ subst (Whole h) (sym (step_refused h xs q n)) o

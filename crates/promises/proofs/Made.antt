@@ -11,10 +11,11 @@ use Rattle.book.specs.declared.heads.Head.{Head}
 use Rattle.book.specs.declared.accounts.Place.{Place}
 use Rattle.book.specs.declared.accounts.Account.{Account}
 use Rattle.book.specs.Accounts.{place, account_at, Within}
+use Rattle.std.specs.Prelude.{Option, Some, None}
 use Rattle.posting.specs.declared.records.Request.{Request}
-use Rattle.posting.specs.declared.records.Request.TheVariants.{Trading, PairingUp, Depositing, Withdrawing, Pledging, Nothing}
-use Rattle.posting.specs.declared.accounts.Way.TheVariants.{Long, Short}
-use Rattle.posting.specs.declared.accounts.Party.TheVariants.{Buyer, Seller}
+use Rattle.posting.specs.declared.records.Request.TheVariants.{Trading, PairingUp, Depositing, Withdrawing, Pledging}
+use Rattle.posting.specs.declared.fills.Way.TheVariants.{Long, Short}
+use Rattle.posting.specs.declared.fills.Party.TheVariants.{Buyer, Seller}
 use Rattle.posting.specs.Records.{places_for}
 use Rattle.posting.specs.Postings.{trade_answer, pairing_answer, deposit_answer, withdrawal_answer, pledge_answer, posting_of}
 use Rattle.posting.specs.Answers.{accounts}
@@ -26,52 +27,52 @@ use Rattle.promises.proofs.Whole.{Whole, some_contract}
 
 -- ---- the posting of a request, and the book after it
 
-abbrev pub posting_at : Head → List ℕ → Request → lens.Posting Account ℕ ℕ
+abbrev pub posting_at : Head → List ℕ → Option Request → lens.Posting Account ℕ ℕ
 posting_at h xs q = posting_of q (lens.gets accounts h xs (places_for q))
 
-abbrev pub step_of : Head → List ℕ → Request → List ℕ
+abbrev pub step_of : Head → List ℕ → Option Request → List ℕ
 step_of h xs q = lens.add_all accounts h (lens.puts accounts h xs (places_for q) (posting_at h xs q).become) (posting_at h xs q).adds
 
 -- no request adds to a counter
-no_adds : (q : Request) (l : List Account) → (posting_of q l).adds ≡ []
-no_adds (Trading t) [] = refl
-no_adds (Trading t) (a ∷ []) = refl
-no_adds (Trading t) (a ∷ b ∷ l) = refl
-no_adds (PairingUp p) [] = refl
-no_adds (PairingUp p) (a ∷ []) = refl
-no_adds (PairingUp p) (a ∷ b ∷ l) = refl
-no_adds (Depositing p) [] = refl
-no_adds (Depositing p) (a ∷ l) = refl
-no_adds (Withdrawing p) [] = refl
-no_adds (Withdrawing p) (a ∷ l) = refl
-no_adds (Pledging p) [] = refl
-no_adds (Pledging p) (a ∷ l) = refl
-no_adds Nothing l = refl
+no_adds : (q : Option Request) (l : List Account) → (posting_of q l).adds ≡ []
+no_adds (Some (Trading t)) [] = refl
+no_adds (Some (Trading t)) (a ∷ []) = refl
+no_adds (Some (Trading t)) (a ∷ b ∷ l) = refl
+no_adds (Some (PairingUp p)) [] = refl
+no_adds (Some (PairingUp p)) (a ∷ []) = refl
+no_adds (Some (PairingUp p)) (a ∷ b ∷ l) = refl
+no_adds (Some (Depositing p)) [] = refl
+no_adds (Some (Depositing p)) (a ∷ l) = refl
+no_adds (Some (Withdrawing p)) [] = refl
+no_adds (Some (Withdrawing p)) (a ∷ l) = refl
+no_adds (Some (Pledging p)) [] = refl
+no_adds (Some (Pledging p)) (a ∷ l) = refl
+no_adds None l = refl
 
 -- and a refused one makes nothing of the accounts
-none_made : (q : Request) (l : List Account) → ((posting_of q l).says ≡ 0 → ⊥) → (posting_of q l).become ≡ []
-none_made (Trading t) [] n = refl
-none_made (Trading t) (a ∷ []) n = refl
-none_made (Trading t) (a ∷ b ∷ l) n = on_refusal (trade_answer t a b) _ [] n
-none_made (PairingUp p) [] n = refl
-none_made (PairingUp p) (a ∷ []) n = refl
-none_made (PairingUp p) (a ∷ b ∷ l) n = on_refusal (pairing_answer p a b) _ [] n
-none_made (Depositing p) [] n = refl
-none_made (Depositing p) (a ∷ l) n = on_refusal (deposit_answer p a) _ [] n
-none_made (Withdrawing p) [] n = refl
-none_made (Withdrawing p) (a ∷ l) n = on_refusal (withdrawal_answer p a) _ [] n
-none_made (Pledging p) [] n = refl
-none_made (Pledging p) (a ∷ l) n = on_refusal (pledge_answer p a) _ [] n
-none_made Nothing l n = refl
+none_made : (q : Option Request) (l : List Account) → ((posting_of q l).says ≡ 0 → ⊥) → (posting_of q l).become ≡ []
+none_made (Some (Trading t)) [] n = refl
+none_made (Some (Trading t)) (a ∷ []) n = refl
+none_made (Some (Trading t)) (a ∷ b ∷ l) n = on_refusal (trade_answer t a b) _ [] n
+none_made (Some (PairingUp p)) [] n = refl
+none_made (Some (PairingUp p)) (a ∷ []) n = refl
+none_made (Some (PairingUp p)) (a ∷ b ∷ l) n = on_refusal (pairing_answer p a b) _ [] n
+none_made (Some (Depositing p)) [] n = refl
+none_made (Some (Depositing p)) (a ∷ l) n = on_refusal (deposit_answer p a) _ [] n
+none_made (Some (Withdrawing p)) [] n = refl
+none_made (Some (Withdrawing p)) (a ∷ l) n = on_refusal (withdrawal_answer p a) _ [] n
+none_made (Some (Pledging p)) [] n = refl
+none_made (Some (Pledging p)) (a ∷ l) n = on_refusal (pledge_answer p a) _ [] n
+none_made None l n = refl
 
 puts_none : (h : Head) (xs : List ℕ) (ps : List Place) → lens.puts accounts h xs ps [] ≡ xs
 puts_none h xs [] = refl
 puts_none h xs (p ∷ ps) = refl
 
-pub step_puts : (h : Head) (xs : List ℕ) (q : Request) → step_of h xs q ≡ lens.puts accounts h xs (places_for q) (posting_at h xs q).become
+pub step_puts : (h : Head) (xs : List ℕ) (q : Option Request) → step_of h xs q ≡ lens.puts accounts h xs (places_for q) (posting_at h xs q).become
 step_puts h xs q = ap (lens.add_all accounts h (lens.puts accounts h xs (places_for q) (posting_at h xs q).become)) (no_adds q (lens.gets accounts h xs (places_for q)))
 
-pub step_refused : (h : Head) (xs : List ℕ) (q : Request) → ((posting_at h xs q).says ≡ 0 → ⊥) → step_of h xs q ≡ xs
+pub step_refused : (h : Head) (xs : List ℕ) (q : Option Request) → ((posting_at h xs q).says ≡ 0 → ⊥) → step_of h xs q ≡ xs
 step_refused h xs q n =
     step_puts h xs q ∙ ap (lens.puts accounts h xs (places_for q)) (none_made q (lens.gets accounts h xs (places_for q)) n) ∙ puts_none h xs (places_for q)
 
@@ -94,7 +95,7 @@ module _ {h : Head} {xs : List ℕ} (o : Whole h xs) where
   on_zero_lem : {ps : List Place} {as' : List Account} (n : ℕ) → n ≡ 0 → Made h xs ps as' → Made h xs ps (on_zero n as' [])
   on_zero_lem {ps} {as'} n e m = subst (λ (x : ℕ). Made h xs ps (on_zero x as' [])) (sym e) m
 
-  pub made : {q : Request} → Formed h q → (posting_at h xs q).says ≡ 0 → Made h xs (places_for q) (posting_at h xs q).become
+  pub made : {q : Option Request} → Formed h q → (posting_at h xs q).says ≡ 0 → Made h xs (places_for q) (posting_at h xs q).become
   made (trading {t} s price) e =
       let w : Within h (place t.buyer t.contract) = record { member = s.buyer; contract = s.contract } in
       let w' : Within h (place t.seller t.contract) = record { member = s.seller; contract = s.contract } in

@@ -18,8 +18,8 @@ use Rattle.book.specs.Positions.{side_at, position_at, put_position}
 use Rattle.validity.specs.Valid.{contents_ok, head_ok, contract_rows, member_rows, position_row, position_rows, traded_ok, balanced, valid_rows, valid_book}
 use Rattle.validity.specs.Opening.{fresh_rows, opening_book}
 use Rattle.posting.specs.declared.records.Mark.TheVariants.{Opens, ClosesOld, ClosesNew}
-use Rattle.posting.specs.declared.accounts.Way.TheVariants.{Long, Short}
-use Rattle.posting.specs.declared.accounts.Party.TheVariants.{Buyer, Seller}
+use Rattle.posting.specs.declared.fills.Way.TheVariants.{Long, Short}
+use Rattle.posting.specs.declared.fills.Party.TheVariants.{Buyer, Seller}
 use Rattle.posting.specs.Records.{record_at, read_trade, read_pairing, read_deposit, read_withdrawal, read_pledge, read_kind, request_of}
 use Rattle.posting.specs.Postings.{trade_answer, pairing_answer, deposit_answer, withdrawal_answer, pledge_answer}
 use Rattle.posting.specs.Answers.{answer, after}

@@ -13,12 +13,13 @@ use Rattle.book.specs.Heads.{head_at}
 use Rattle.book.specs.Positions.{position_at, opening_of, held_sides, paired_of}
 use Rattle.posting.specs.declared.records.Mark.{Mark}
 use Rattle.posting.specs.declared.records.Mark.TheVariants.{Opens, ClosesOld, ClosesNew}
+use Rattle.std.specs.Prelude.{Option, Some, None}
 use Rattle.posting.specs.declared.records.Request.{Request}
-use Rattle.posting.specs.declared.records.Request.TheVariants.{Trading, PairingUp, Depositing, Withdrawing, Pledging, Nothing}
-use Rattle.posting.specs.declared.accounts.Way.{Way}
-use Rattle.posting.specs.declared.accounts.Way.TheVariants.{Long, Short}
-use Rattle.posting.specs.declared.accounts.Party.{Party}
-use Rattle.posting.specs.declared.accounts.Party.TheVariants.{Buyer, Seller}
+use Rattle.posting.specs.declared.records.Request.TheVariants.{Trading, PairingUp, Depositing, Withdrawing, Pledging}
+use Rattle.posting.specs.declared.fills.Way.{Way}
+use Rattle.posting.specs.declared.fills.Way.TheVariants.{Long, Short}
+use Rattle.posting.specs.declared.fills.Party.{Party}
+use Rattle.posting.specs.declared.fills.Party.TheVariants.{Buyer, Seller}
 use Rattle.posting.specs.Records.{request_of}
 use Rattle.promises.specs.Runs.{answers_to}
 
@@ -33,13 +34,13 @@ pub data Fill : Type 0 where
 abbrev pub share : (contract buyer seller : ℕ) (of_buyer of_seller : Fill) (m j : ℕ) → List Fill
 share contract buyer seller of_buyer of_seller m j = cond (eqb contract j) (cond (eqb buyer m) (of_buyer ∷ []) (cond (eqb seller m) (of_seller ∷ []) [])) []
 
-abbrev pub fills_of : Request → (m j : ℕ) → List Fill
-fills_of (Trading t) m j = share t.contract t.buyer t.seller (dealing Buyer t.buying t.price t.lots) (dealing Seller t.selling t.price t.lots) m j
-fills_of (PairingUp p) m j = share p.contract p.buyer p.seller (delivering Long p.lots) (delivering Short p.lots) m j
-fills_of (Depositing p) m j = []
-fills_of (Withdrawing p) m j = []
-fills_of (Pledging p) m j = []
-fills_of Nothing m j = []
+abbrev pub fills_of : Option Request → (m j : ℕ) → List Fill
+fills_of (Some (Trading t)) m j = share t.contract t.buyer t.seller (dealing Buyer t.buying t.price t.lots) (dealing Seller t.selling t.price t.lots) m j
+fills_of (Some (PairingUp p)) m j = share p.contract p.buyer p.seller (delivering Long p.lots) (delivering Short p.lots) m j
+fills_of (Some (Depositing p)) m j = []
+fills_of (Some (Withdrawing p)) m j = []
+fills_of (Some (Pledging p)) m j = []
+fills_of None m j = []
 
 -- the records whose answer is 0
 abbrev pub accepted_of : List ℕ → List (List ℕ) → List (List ℕ)

@@ -1,3 +1,4 @@
 pub mod Bounds
 pub mod Totals
 pub mod Articles
+pub mod Answered

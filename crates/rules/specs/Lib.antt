@@ -1,4 +1,5 @@
 -- 01, Units, Money rules and Evening settlement, with their articles of 000.
+pub mod Refusals
 pub mod Units
 pub mod Ranges
 pub mod Members

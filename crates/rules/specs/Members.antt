@@ -1,10 +1,11 @@
 -- 000, articles 23 and 34: what a member's kind asks of its reserve.
-use Rattle.std.specs.Prelude.{cond, ℕ, pos, ◌-ℤ◌}
+use Rattle.std.specs.Prelude.{cond, ℕ, pos, ◌-ℤ◌, ◌≡◌, ◌≢◌, Result, MatchResult}
 use Rattle.std.specs.Int.Signed.{le_z}
 use Rattle.numbers.specs.Choice.{larger_of}
 use Rattle.rules.specs.Units.{Fen, fen}
 pub use Rattle.rules.specs.declared.members.MemberKind.{MemberKind}
 pub use Rattle.rules.specs.declared.members.MemberKind.TheVariants.{Broker, Other}
+pub use Rattle.rules.specs.declared.members.UnknownKind.{UnknownKind}
 pub use Rattle.rules.specs.declared.members.Standing.{Standing}
 pub use Rattle.rules.specs.declared.members.Standing.TheVariants.{MayOpen, NoOpening, Liquidation}
 
@@ -26,3 +27,12 @@ number_of Liquidation = 2
 -- minimum − reserve, at least 0: 000, article 34
 abbrev pub call_of : MemberKind → Fen → Fen
 call_of kind reserve = fen (larger_of (pos 0) ((minimum_of kind).0 -ℤ reserve.0))
+
+-- 1 broker, 2 other: 01, The book, section 2
+abbrev pub kind_number : MemberKind → ℕ
+kind_number Broker = 1
+kind_number Other = 2
+
+-- the kind of that number, or that there is none
+abbrev pub KindOf : ℕ → Result MemberKind UnknownKind → Type 0
+KindOf n r = MatchResult r (λ kind. kind_number kind ≡ n) (λ e. (e.0 ≡ n) × (n ≢ 1) × (n ≢ 2))

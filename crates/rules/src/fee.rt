@@ -9,6 +9,6 @@ pub fn contract_fee(traded: Lots, paired: Sides, trade_fee: u32, delivery_fee: u
     requires { FeeIn traded paired trade_fee delivery_fee }
     ensures { result ≡ fee_of traded paired trade_fee delivery_fee }
 {
-    let both = (paired.long.0 as i64) + (paired.short.0 as i64);
-    Fen((traded.0 as i64) * (trade_fee as i64) + both * (delivery_fee as i64))
+    let both = i64::from(paired.long.0) + i64::from(paired.short.0);
+    Fen(i64::from(traded.0) * i64::from(trade_fee) + both * i64::from(delivery_fee))
 }

@@ -7,5 +7,6 @@ pub mod members;
 pub mod money;
 pub mod night;
 pub mod profit;
+pub mod refusals;
 pub mod securities;
 pub mod units;

@@ -18,17 +18,13 @@ pub fn remaining(held: Sides, paired: Sides) -> Sides
 pub fn larger_side(sides: Sides) -> Lots
     ensures { result ≡ larger_side_of sides }
 {
-    if sides.long.0 < sides.short.0 {
-        sides.short
-    } else {
-        sides.long
-    }
+    Lots(sides.long.0.max(sides.short.0))
 }
 
 pub fn contract_margin(charged: Lots, price: Price, multiplier: u32, rate: u32) -> Fen
     requires { MarginIn charged price multiplier rate }
     ensures { result ≡ margin_of charged price multiplier rate }
 {
-    let value = (charged.0 as i64) * (price.0 as i64) * (multiplier as i64);
-    Fen((value * (rate as i64) + 9_999) / 10_000)
+    let value = i64::from(charged.0) * i64::from(price.0) * i64::from(multiplier);
+    Fen((value * i64::from(rate) + 9_999) / 10_000)
 }

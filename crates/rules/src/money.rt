@@ -6,6 +6,7 @@ ghost use Rattle.rules.specs.Ranges.{FiguresIn, RoomLeftIn};
 use crate::members::MemberKind;
 use crate::units::{Fen, Figures};
 
+// The figures' range stays a clause. A second type of figures, as RangedRows is of Rows, would be no plainer: figures are a field of a member's row, read before it is checked.
 pub fn money(figures: Figures) -> Fen
     requires { FiguresIn figures }
     ensures { result ≡ money_of figures }
@@ -17,26 +18,22 @@ pub fn room(kind: MemberKind, figures: Figures) -> Fen
     requires { FiguresIn figures }
     ensures { result ≡ room_of kind figures }
 {
-    let have = money(figures);
     let margin = figures.margin.0;
     let usable = figures.usable.0;
-    let kept = numbers::larger(margin - usable, (usable + 3) / 4);
-    let minimum = kind.minimum();
-    Fen(have.0 - kept - minimum.0)
+    let kept = (margin - usable).max((usable + 3) / 4);
+    Fen(money(figures).0 - kept - kind.minimum().0)
 }
 
 pub fn room_left(kind: MemberKind, figures: Figures, deposits: Fen, withdrawals: Fen) -> Fen
     requires { RoomLeftIn figures deposits withdrawals }
     ensures { result ≡ room_left_of kind figures deposits withdrawals }
 {
-    let room = room(kind, figures);
-    Fen(room.0 + deposits.0 - withdrawals.0)
+    Fen(room(kind, figures).0 + deposits.0 - withdrawals.0)
 }
 
 pub fn withdrawable(kind: MemberKind, figures: Figures) -> Fen
     requires { FiguresIn figures }
     ensures { result ≡ withdrawable_of kind figures }
 {
-    let room = room(kind, figures);
-    Fen(numbers::larger(0, room.0))
+    Fen(room(kind, figures).0.max(0))
 }

@@ -5,11 +5,11 @@ ghost use Rattle.rules.specs.Ranges.{ProfitIn};
 
 use crate::units::{Fen, Prices, Sides};
 
-// Long less short.
+/// Long less short.
 pub fn net(sides: Sides) -> i64
     ensures { result ≡ net_of sides }
 {
-    (sides.long.0 as i64) - (sides.short.0 as i64)
+    i64::from(sides.long.0) - i64::from(sides.short.0)
 }
 
 pub fn contract_profit(
@@ -23,9 +23,9 @@ pub fn contract_profit(
     requires { ProfitIn multiplier cash held opening paired prices }
     ensures { result ≡ profit_of multiplier cash held opening paired prices }
 {
-    let last = prices.last.0 as i64;
-    let tonight = prices.tonight.0 as i64;
-    let delivery = prices.delivery.0 as i64;
+    let last = i64::from(prices.last.0);
+    let tonight = i64::from(prices.tonight.0);
+    let delivery = i64::from(prices.delivery.0);
     let marked = cash.0 + net(held) * tonight - net(opening) * last;
-    Fen((multiplier as i64) * (marked + net(paired) * (delivery - tonight)))
+    Fen(i64::from(multiplier) * (marked + net(paired) * (delivery - tonight)))
 }

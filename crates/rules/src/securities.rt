@@ -10,7 +10,7 @@ pub fn discounted(market: Fen, discount: u32) -> Fen
     requires { SecuritiesIn market discount }
     ensures { result ≡ discounted_of market discount }
 {
-    Fen(market.0 * (discount as i64) / 10_000)
+    Fen(market.0 * i64::from(discount) / 10_000)
 }
 
 pub fn usable(discounted: Fen, money: Fen) -> Fen
@@ -25,5 +25,5 @@ pub fn usable(discounted: Fen, money: Fen) -> Fen
     if 1_000_000_000_000_000 <= have {
         return discounted;
     }
-    Fen(numbers::smaller(discounted.0, 4 * have))
+    Fen(discounted.0.min(4 * have))
 }

@@ -1,25 +1,25 @@
 // What the rules count in. Each is a type of its own, so that lots are never taken where fen are due.
 
-// Money: whole fen, signed.
-#[derive(Clone, Copy)]
+/// Money: whole fen, signed.
+#[derive(Clone, Copy, Default)]
 pub struct Fen(pub i64);
 
-// Goods.
+/// Goods.
 #[derive(Clone, Copy)]
 pub struct Lots(pub u32);
 
-// Fen per unit of goods.
+/// Fen per unit of goods.
 #[derive(Clone, Copy)]
 pub struct Price(pub u32);
 
-// Lots of one contract on its two sides: held, opening or paired.
+/// Lots of one contract on its two sides: held, opening or paired.
 #[derive(Clone, Copy)]
 pub struct Sides {
     pub long: Lots,
     pub short: Lots,
 }
 
-// One contract's prices in an evening.
+/// One contract's prices in an evening.
 #[derive(Clone, Copy)]
 pub struct Prices {
     pub last: Price,
@@ -27,7 +27,7 @@ pub struct Prices {
     pub delivery: Price,
 }
 
-// What is kept of a member's money from evening to evening.
+/// What is kept of a member's money from evening to evening.
 #[derive(Clone, Copy)]
 pub struct Figures {
     pub reserve: Fen,
@@ -35,7 +35,7 @@ pub struct Figures {
     pub usable: Fen,
 }
 
-// What moved a member's money in a day.
+/// What moved a member's money in a day.
 #[derive(Clone, Copy)]
 pub struct Movements {
     pub profit: Fen,

@@ -1,9 +1,10 @@
 -- What the answer 0 says, and the answer and the buffers by whether the book is valid.
-use mathlib.Core.Path.{◌≡◌, refl, ap}
-use mathlib.Core.Bool.{true, false}
+use mathlib.Core.Path.{◌≡◌, refl, ap, ◌∙◌}
+use mathlib.Core.Bool.{true, false, not, cond}
 use mathlib.Core.List.{List}
-use Prim.Native.Nat.{ℕ, ◌*◌, ◌≤◌}
-use borrow.Author.Tests.{ltb-false, not-false}
+use Prim.Native.Nat.{ℕ, ◌*◌, ◌≤◌, ◌<◌}
+use borrow.Author.Tests.{ltb-false, not-false, lt-ltb, le-ltb}
+use lib.Dec.{ltb}
 use lib.ListN.{length}
 use Rattle.folds.specs.First.{on_zero}
 use Rattle.folds.specs.Laid.{over}
@@ -32,6 +33,29 @@ accepted b ps next_length results_length e =
       results = ltb-false results_length (b.head.members * result_size) (t 2);
       reserves = not-false (reserves_ok b ps) (t 3);
     }
+
+-- of a valid book, rule by rule
+module _ (b : Book) (ps : List ℕ) (next_length results_length : ℕ) where
+  pub answer_prices : prices_ok b ps ≡ false → evening_answer b ps next_length results_length ≡ 8
+  unfolding evening_answer
+  answer_prices p = rw p
+
+  module _ (p : prices_ok b ps ≡ true) where
+    pub answer_next : next_length < book_length b.head → evening_answer b ps next_length results_length ≡ 11
+    unfolding evening_answer
+    answer_next l = rw (p, lt-ltb next_length (book_length b.head) l)
+
+    pub answer_room : book_length b.head ≤ next_length → evening_answer b ps next_length results_length
+        ≡ cond (ltb results_length (b.head.members * result_size)) 11 (cond (not (reserves_ok b ps)) 9 0)
+    unfolding evening_answer
+    answer_room l = rw (p, le-ltb next_length (book_length b.head) l)
+
+    pub answer_results : book_length b.head ≤ next_length → results_length < b.head.members * result_size → evening_answer b ps next_length results_length ≡ 11
+    answer_results l k = answer_room l ∙ rw (lt-ltb results_length (b.head.members * result_size) k)
+
+    pub answer_reserves : book_length b.head ≤ next_length → b.head.members * result_size ≤ results_length
+        → evening_answer b ps next_length results_length ≡ cond (not (reserves_ok b ps)) 9 0
+    answer_reserves l k = answer_room l ∙ rw (le-ltb results_length (b.head.members * result_size) k)
 
 module _ (xs ps : List ℕ) where
   pub answer_invalid : (next_length results_length : ℕ) → valid_book xs ≡ false → settle_answer xs ps next_length results_length ≡ 10

@@ -6,6 +6,7 @@ use Rattle.rules.specs.declared.units.Lots.{Lots}
 use Rattle.rules.specs.declared.units.Sides.{Sides}
 use Rattle.rules.specs.declared.units.Figures.{Figures}
 use Rattle.rules.specs.Units.{fen, lots}
+use Rattle.rules.specs.Members.{number_of}
 use Rattle.rules.specs.Margin.{remaining_of}
 use Rattle.book.specs.declared.heads.Head.{Head}
 use Rattle.book.specs.declared.contracts.Contract.{Contract}
@@ -99,7 +100,7 @@ abbrev pub result_figures : Figures → List Field
 result_figures f = money_field 24 f.margin ∷ money_field 32 f.usable ∷ money_field 40 f.reserve ∷ []
 
 abbrev pub result_standing : Night → List Field
-result_standing t = money_field 48 t.withdrawable ∷ money_field 56 t.call ∷ field 64 8 t.standing ∷ []
+result_standing t = money_field 48 t.withdrawable ∷ money_field 56 t.call ∷ field 64 8 (number_of t.standing) ∷ []
 
 abbrev pub result_fields : Night → List Field
 result_fields t = result_sums t ++ (result_figures t.figures ++ result_standing t)

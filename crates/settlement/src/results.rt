@@ -1,71 +1,83 @@
-// The results: the nine sheet fields of each member, eight bytes each, signed.
-ghost use Rattle.std.specs.Prelude.{◌≡◌, ◌+◌, ◌*◌, ◌≤◌, ◌<◌, length};
+// The results: the nine sheet fields of each member, eight bytes each, signed, in a plain loop: of a closure that writes, the caller's proof would learn nothing.
+ghost use Rattle.std.specs.Prelude.{◌≡◌, ◌+◌, ◌*◌, ◌≤◌, length};
 ghost use Rattle.std.proofs.lemmas.List.Edits.{sets};
 ghost use Rattle.folds.specs.Rows.{row_bytes, put_fields};
-ghost use Rattle.book.specs.Books.{book_by};
-ghost use Rattle.settlement.specs.Next.{result_size, result_sums, result_figures, result_standing, result_fields, result_row, result_bytes};
-ghost use Rattle.tonight.specs.Evening.{Evening};
+ghost use Rattle.book.specs.Rows.{book_of};
+ghost use Rattle.settlement.specs.Next.{result_size, result_sums, result_figures, result_standing, result_fields, result_bytes};
 
-use book::heads::Head;
 use rules::units::Figures;
-use tonight::nights;
+use tonight::evening::Evening;
 use tonight::nights::Night;
 
+// The sheet has this number too: it knows nothing of settlement, and its edit row_of_another_member alters it.
 pub const RESULT: usize = 72;
 
-fn put_sums(results: &mut [u8], off: usize, t: Night)
-    requires { off + result_size ≤ length results.old }
-    ensures { results.new ≡ put_fields results.old off (result_sums t) }
+const MEMBER: usize = 0;
+
+const PROFIT: usize = 8;
+
+const FEE: usize = 16;
+
+const MARGIN: usize = 24;
+
+const USABLE: usize = 32;
+
+const RESERVE: usize = 40;
+
+const WITHDRAWABLE: usize = 48;
+
+const CALL: usize = 56;
+
+const STANDING: usize = 64;
+
+// A member's fields in three parts, as the definition has them: the proof of nine writes at once did not close.
+fn put_sums(row: &mut [u8; RESULT], t: Night)
+    ensures { row.new ≡ put_fields row.old 0 (result_sums t) }
 {
-    wire::write_u64(results, off + 0, t.member as u64);
-    wire::write_i64(results, off + 8, t.profit.0);
-    wire::write_i64(results, off + 16, t.fee.0);
+    wire::write(row, MEMBER, t.member as u64);
+    wire::write(row, PROFIT, t.profit.0);
+    wire::write(row, FEE, t.fee.0);
 }
 
-fn put_figures(results: &mut [u8], off: usize, f: Figures)
-    requires { off + result_size ≤ length results.old }
-    ensures { results.new ≡ put_fields results.old off (result_figures f) }
+fn put_figures(row: &mut [u8; RESULT], f: Figures)
+    ensures { row.new ≡ put_fields row.old 0 (result_figures f) }
 {
-    wire::write_i64(results, off + 24, f.margin.0);
-    wire::write_i64(results, off + 32, f.usable.0);
-    wire::write_i64(results, off + 40, f.reserve.0);
+    wire::write(row, MARGIN, f.margin.0);
+    wire::write(row, USABLE, f.usable.0);
+    wire::write(row, RESERVE, f.reserve.0);
 }
 
-fn put_standing(results: &mut [u8], off: usize, t: Night)
-    requires { off + result_size ≤ length results.old }
-    ensures { results.new ≡ put_fields results.old off (result_standing t) }
+fn put_standing(row: &mut [u8; RESULT], t: Night)
+    ensures { row.new ≡ put_fields row.old 0 (result_standing t) }
 {
-    wire::write_i64(results, off + 48, t.withdrawable.0);
-    wire::write_i64(results, off + 56, t.call.0);
-    wire::write_u64(results, off + 64, t.standing as u64);
+    wire::write(row, WITHDRAWABLE, t.withdrawable.0);
+    wire::write(row, CALL, t.call.0);
+    wire::write(row, STANDING, u64::from(u32::from(t.standing)));
+}
+
+fn night_row(t: Night) -> [u8; RESULT]
+    ensures { result ≡ row_bytes (result_fields t) }
+{
+    let mut row = [0; RESULT];
+    put_sums(&mut row, t);
+    put_figures(&mut row, t.figures);
+    put_standing(&mut row, t);
+    row
 }
 
 fn put_night(results: &mut [u8], off: usize, t: Night)
     requires { off + result_size ≤ length results.old }
     ensures { results.new ≡ sets results.old off (row_bytes (result_fields t)) }
 {
-    let figures = t.figures;
-    put_sums(results, off, t);
-    put_figures(results, off, figures);
-    put_standing(results, off, t);
+    wire::put_bytes(results, off, &night_row(t));
 }
 
-fn put_result(book: &[u8], evening: &[u8], results: &mut [u8], h: Head, m: usize)
-    requires { Evening book.now evening.now h × (h.members * result_size ≤ length results.old) × (m < h.members) }
-    ensures { results.new ≡ sets results.old (m * result_size) (result_row (book_by h book.now) evening.now m) }
+#[tactic(auto, unfolding(crate::specs::Next::result_bytes))]
+pub fn put_results(evening: &Evening<'_>, results: &mut [u8])
+    requires { evening.now.rows.head.members * result_size ≤ length results.old }
+    ensures { results.new ≡ sets results.old 0 (result_bytes (book_of evening.now.rows) evening.now.prices.now) }
 {
-    let night = nights::night_of(book, evening, h, m);
-    put_night(results, m * RESULT, night);
-}
-
-pub fn put_results(book: &[u8], evening: &[u8], results: &mut [u8], h: Head)
-    requires { Evening book.now evening.now h × (h.members * result_size ≤ length results.old) }
-    ensures { results.new ≡ sets results.old 0 (result_bytes (book_by h book.now) evening.now) }
-{
-    let n = h.members;
-    let mut m = 0;
-    while m < n {
-        put_result(book, evening, results, h, m);
-        m += 1;
+    for m in 0..evening.rows.head.members {
+        put_night(results, m * RESULT, evening.night(m));
     }
 }

@@ -6,7 +6,7 @@ use Rattle.rules.specs.declared.units.Fen.{Fen}
 use Rattle.rules.specs.declared.units.Prices.{Prices}
 use Rattle.rules.specs.declared.units.Figures.{Figures}
 use Rattle.rules.specs.Units.{fen}
-use Rattle.rules.specs.Members.{standing_of, number_of, call_of}
+use Rattle.rules.specs.Members.{standing_of, call_of}
 use Rattle.rules.specs.Money.{withdrawable_of}
 use Rattle.rules.specs.Securities.{discounted_of}
 use Rattle.rules.specs.Margin.{remaining_of, larger_side_of, margin_of}
@@ -80,7 +80,7 @@ night_by m r t figures = record {
   figures = figures;
   withdrawable = withdrawable_of r.kind figures;
   call = call_of r.kind figures.reserve;
-  standing = number_of (standing_of r.kind figures.reserve);
+  standing = standing_of r.kind figures.reserve;
 }
 
 abbrev pub night_after : ℕ → Member → Tally → Night

@@ -1,13 +1,12 @@
 -- What the parts of a valid book say of each row and each field.
-use mathlib.Core.Path.{◌≡◌, refl}
-use mathlib.Core.Bool.{true, ◌&&◌}
+use mathlib.Core.Path.{◌≡◌}
+use mathlib.Core.Bool.{true}
 use mathlib.Core.List.{List, [], ◌∷◌}
 use Prim.Native.Nat.{ℕ, ◌*◌, ◌≤◌, ◌<◌}
 use native.Mathlib.Omega.{arith}
 use borrow.Author.Tests.{leb-true, eqb-true}
 use lib.Dec.{leb}
-use lib.IntN.{ℤ, pos, negsuc, nat_abs}
-use lib.Signed.{le_z}
+use lib.IntN.{nat_abs}
 use lib.ListN.{length}
 use Rattle.numbers.proofs.Sums.{sum_has}
 use Rattle.folds.specs.Tests.{all_of, between}
@@ -119,10 +118,9 @@ module _ (xs : List ℕ) (e : valid_book xs ≡ true) where
       let l = rows_ok (book_at xs) ∷ traded_ok (book_at xs) ∷ balanced (book_at xs) ∷ [] in
       record { rows = each l valid_rows_lem 0; traded = each l valid_rows_lem 1 }
 
--- 0..most, by the number's size
-pub up_is : (z : ℤ) (most : ℕ) → le_z (pos 0) z && leb (nat_abs z) most ≡ le_z (pos 0) z && le_z z (pos most)
-up_is (pos n) most = refl
-up_is (negsuc n) most = refl
+  pub valid_balanced : balanced (book_at xs) ≡ true
+  unfolding valid_rows
+  valid_balanced = each (rows_ok (book_at xs) ∷ traded_ok (book_at xs) ∷ balanced (book_at xs) ∷ []) valid_rows_lem 2
 
 pub head_room : (xs : List ℕ) → head_ok xs ≡ true → head_size ≤ length xs
 unfolding head_ok

@@ -4,3 +4,4 @@ pub mod Fits
 pub mod SameHead
 pub mod AsFacts
 pub mod Sums
+pub mod Whole

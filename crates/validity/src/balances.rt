@@ -1,111 +1,77 @@
 // Each contract, over all members: as many long as short, and cash sums that total zero.
 ghost use Rattle.std.specs.Prelude.{◌≡◌, ◌<◌};
 ghost use Rattle.folds.specs.Tests.{all_of};
-ghost use Rattle.book.specs.Books.{book_by};
-ghost use Rattle.book.specs.Accounts.{Shaped};
+ghost use Rattle.book.specs.Rows.{book_of};
 ghost use Rattle.validity.specs.Valid.{balance_tests, balanced};
-ghost use Rattle.validity.specs.Totals.{Ranged, SideIn, PositionIn, SideFew, TotalsFew, add_side, add_row, no_totals, totals_to};
+ghost use Rattle.validity.specs.Totals.{SideIn, PositionIn, SideFew, TotalsFew, add_side, add_row, totals_to};
 
-use book::heads::Head;
+use crate::ranged::RangedRows;
+use crate::sides::held;
 use book::positions::{Position, Side};
 
-// The lots of one contract on one side, over some members.
-#[derive(Clone, Copy)]
+/// The lots of one contract on one side, over some members.
+#[derive(Clone, Copy, Default, PartialEq)]
 pub struct SideTotals {
     pub opening: u64,
     pub held: u64,
     pub paired: u64,
 }
 
-#[derive(Clone, Copy)]
+/// The lots on both sides, and the cash sums.
+#[derive(Clone, Copy, Default)]
 pub struct Totals {
     pub long: SideTotals,
     pub short: SideTotals,
     pub cash: i64,
 }
 
-fn add_side(t: SideTotals, s: Side) -> SideTotals
-    requires { SideFew t × SideIn s }
-    ensures { result ≡ add_side t s }
-{
-    let held = ((s.opening.0 - s.closed.0) as u64) + (s.new.0 as u64);
-    SideTotals {
-        opening: t.opening + (s.opening.0 as u64),
-        held: t.held + held,
-        paired: t.paired + (s.paired.0 as u64),
+impl SideTotals {
+    fn with(self, s: Side) -> SideTotals
+        requires { SideFew self × SideIn s }
+        ensures { result ≡ add_side self s }
+    {
+        SideTotals {
+            opening: self.opening + u64::from(s.opening.0),
+            held: self.held + u64::from(held(s).0),
+            paired: self.paired + u64::from(s.paired.0),
+        }
     }
 }
 
-fn add_row(t: Totals, p: Position) -> Totals
-    requires { TotalsFew t × PositionIn p }
-    ensures { result ≡ add_row t p }
-{
-    let longs = t.long;
-    let shorts = t.short;
-    let long = p.long;
-    let short = p.short;
-    Totals {
-        long: add_side(longs, long),
-        short: add_side(shorts, short),
-        cash: t.cash + p.cash.0,
+impl Totals {
+    fn with(self, p: Position) -> Totals
+        requires { TotalsFew self × PositionIn p }
+        ensures { result ≡ add_row self p }
+    {
+        Totals {
+            long: self.long.with(p.long),
+            short: self.short.with(p.short),
+            cash: self.cash + p.cash.0,
+        }
     }
 }
 
-fn no_totals() -> Totals
-    ensures { result ≡ no_totals }
+fn contract_totals(book: &RangedRows<'_>, j: usize) -> Totals
+    requires { j < book.now.rows.head.contracts }
+    ensures { result ≡ totals_to (book_of book.now.rows) j book.now.rows.head.members }
 {
-    Totals {
-        long: SideTotals {
-            opening: 0,
-            held: 0,
-            paired: 0,
-        },
-        short: SideTotals {
-            opening: 0,
-            held: 0,
-            paired: 0,
-        },
-        cash: 0,
-    }
-}
-
-fn contract_totals(s: &[u8], h: Head, j: usize) -> Totals
-    requires { Shaped s.now h × Ranged (book_by h s.now) × (j < h.contracts) }
-    ensures { result ≡ totals_to (book_by h s.now) j h.members }
-{
-    let n = h.members;
-    let mut t = no_totals();
-    let mut m = 0;
-    while m < n {
-        let off = book::positions::position_off(h, m, j);
-        t = add_row(t, book::positions::position_at(s, off));
-        m += 1;
+    let mut t = Totals::default();
+    for m in 0..book.rows.head.members {
+        t = t.with(book.rows.position(m, j));
     }
     t
 }
 
-fn contract_balanced(s: &[u8], h: Head, j: usize) -> bool
-    requires { Shaped s.now h × Ranged (book_by h s.now) × (j < h.contracts) }
-    ensures { result ≡ all_of (balance_tests (book_by h s.now) j) }
+fn contract_balanced(book: &RangedRows<'_>, j: usize) -> bool
+    requires { j < book.now.rows.head.contracts }
+    ensures { result ≡ all_of (balance_tests (book_of book.now.rows) j) }
 {
-    let t = contract_totals(s, h, j);
-    let cash = numbers::size(t.cash);
-    (t.long.opening == t.short.opening)
-        & (t.long.held == t.short.held)
-        & (t.long.paired == t.short.paired)
-        & (cash == 0)
+    let t = contract_totals(book, j);
+    (t.long == t.short) & (t.cash == 0)
 }
 
-pub fn balanced(s: &[u8], h: Head) -> bool
-    requires { Shaped s.now h × Ranged (book_by h s.now) }
-    ensures { result ≡ balanced (book_by h s.now) }
+pub fn balanced(book: &RangedRows<'_>) -> bool
+    ensures { result ≡ balanced (book_of book.now.rows) }
 {
-    let k = h.contracts;
-    let mut ok = true;
-    let mut j = 0;
-    while j < k {
-        ok = ok & contract_balanced(s, h, j);
-        j += 1;
-    }
-    ok
+    (0..book.rows.head.contracts).all(|j| contract_balanced(book, j))
 }

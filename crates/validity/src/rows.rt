@@ -1,22 +1,29 @@
 // Every field of every row in its range.
 ghost use Rattle.std.specs.Prelude.{◌≡◌, ◌<◌};
-ghost use Rattle.folds.specs.Tests.{all_of};
-ghost use Rattle.book.specs.Books.{book_by};
-ghost use Rattle.book.specs.Accounts.{Shaped};
+ghost use Rattle.folds.specs.Tests.{all_of, between};
+ghost use Rattle.book.specs.Rows.{book_of};
 ghost use Rattle.validity.specs.Valid.{up_to, about_zero, contract_tests, member_tests, side_tests, position_tests, contract_rows, member_row, member_rows, position_row, position_rows, rows_ok};
 
 use book::contracts::Contract;
-use book::heads::Head;
+use book::lent::Rows;
 use book::members::Member;
 use book::positions::{Position, Side};
+use rules::members::MemberKind;
 use rules::units::Fen;
+
+// least..most.
+fn between(number: u32, least: u32, most: u32) -> bool
+    ensures { result ≡ between least most number }
+{
+    (least..=most).contains(&number)
+}
 
 fn contract_ok(c: Contract) -> bool
     ensures { result ≡ all_of (contract_tests c) }
 {
-    ((1 <= c.last.0) & (c.last.0 <= 10_000_000))
-        & ((1 <= c.multiplier) & (c.multiplier <= 100))
-        & ((1 <= c.rate) & (c.rate <= 10_000))
+    between(c.last.0, 1, 10_000_000)
+        & between(c.multiplier, 1, 100)
+        & between(c.rate, 1, 10_000)
         & (c.fee <= 100_000)
         & (c.delivery <= 100_000)
         & (c.zero == 0)
@@ -26,15 +33,14 @@ fn contract_ok(c: Contract) -> bool
 fn up_to(amount: Fen, most: u64) -> bool
     ensures { result ≡ up_to most amount }
 {
-    let size = numbers::size(amount.0);
-    (0 <= amount.0) & (size <= most)
+    (0 <= amount.0) & about_zero(amount, most)
 }
 
-// −most..most.
-fn about_zero(amount: Fen, most: u64) -> bool
+/// −most..most.
+pub fn about_zero(amount: Fen, most: u64) -> bool
     ensures { result ≡ about_zero most amount }
 {
-    numbers::size(amount.0) <= most
+    amount.0.unsigned_abs() <= most
 }
 
 fn member_ok(r: Member) -> bool
@@ -43,7 +49,7 @@ fn member_ok(r: Member) -> bool
     if 20_000 < r.accepted {
         return false;
     }
-    let most = 1_000_000_000_000 * (r.accepted as u64);
+    let most = 1_000_000_000_000 * u64::from(r.accepted);
     about_zero(r.figures.reserve, 1_000_000_000_000_000)
         & up_to(r.figures.margin, 10_000_000_000_000_000)
         & up_to(r.figures.usable, 1_000_000_000_000_000)
@@ -61,90 +67,53 @@ fn side_ok(s: Side) -> bool
     if opening < closed {
         return false;
     }
-    let held = ((opening - closed) as u64) + (s.new.0 as u64);
-    (opening <= 100_000) & (held <= 100_000) & ((s.paired.0 as u64) <= held)
+    let held = u64::from(opening - closed) + u64::from(s.new.0);
+    (opening <= 100_000) & (held <= 100_000) & (u64::from(s.paired.0) <= held)
 }
 
 fn position_ok(p: Position) -> bool
     ensures { result ≡ all_of (position_tests p) }
 {
-    let long = p.long;
-    let short = p.short;
-    let most = 10_000_000 * (p.traded.0 as u64);
-    side_ok(long) & side_ok(short) & about_zero(p.cash, most) & (p.zero == 0)
+    let most = 10_000_000 * u64::from(p.traded.0);
+    side_ok(p.long) & side_ok(p.short) & about_zero(p.cash, most) & (p.zero == 0)
 }
 
-fn contract_rows(s: &[u8], h: Head) -> bool
-    requires { Shaped s.now h }
-    ensures { result ≡ contract_rows (book_by h s.now) }
+fn contract_rows(rows: &Rows<'_>) -> bool
+    ensures { result ≡ contract_rows (book_of rows.now) }
 {
-    let k = h.contracts;
-    let mut ok = true;
-    let mut j = 0;
-    while j < k {
-        let off = book::contracts::contract_off(j);
-        ok = ok & contract_ok(book::contracts::contract_at(s, off));
-        j += 1;
-    }
-    ok
+    (0..rows.head.contracts).all(|j| contract_ok(rows.contract(j)))
 }
 
-fn member_row(s: &[u8], h: Head, m: usize) -> bool
-    requires { Shaped s.now h × (m < h.members) }
-    ensures { result ≡ member_row (book_by h s.now) m }
+// A place in range stays a clause: it speaks of the place and the book, and a type of places would have to hold the book.
+fn member_row(rows: &Rows<'_>, m: usize) -> bool
+    requires { m < rows.now.head.members }
+    ensures { result ≡ member_row (book_of rows.now) m }
 {
-    let off = book::members::member_off(h, m);
-    let kind = wire::read_u32(s, off + book::layout::KIND);
-    let row = book::members::member_at(s, off);
-    ((1 <= kind) & (kind <= 2)) & member_ok(row)
+    let kind = MemberKind::try_from(rows.kind_number(m));
+    kind.is_ok() & member_ok(rows.member(m))
 }
 
-fn member_rows(s: &[u8], h: Head) -> bool
-    requires { Shaped s.now h }
-    ensures { result ≡ member_rows (book_by h s.now) }
+fn member_rows(rows: &Rows<'_>) -> bool
+    ensures { result ≡ member_rows (book_of rows.now) }
 {
-    let n = h.members;
-    let mut ok = true;
-    let mut m = 0;
-    while m < n {
-        ok = ok & member_row(s, h, m);
-        m += 1;
-    }
-    ok
+    (0..rows.head.members).all(|m| member_row(rows, m))
 }
 
-fn position_row(s: &[u8], h: Head, m: usize) -> bool
-    requires { Shaped s.now h × (m < h.members) }
-    ensures { result ≡ position_row (book_by h s.now) m }
+fn position_row(rows: &Rows<'_>, m: usize) -> bool
+    requires { m < rows.now.head.members }
+    ensures { result ≡ position_row (book_of rows.now) m }
 {
-    let k = h.contracts;
-    let mut ok = true;
-    let mut j = 0;
-    while j < k {
-        let off = book::positions::position_off(h, m, j);
-        ok = ok & position_ok(book::positions::position_at(s, off));
-        j += 1;
-    }
-    ok
+    (0..rows.head.contracts).all(|j| position_ok(rows.position(m, j)))
 }
 
-fn position_rows(s: &[u8], h: Head) -> bool
-    requires { Shaped s.now h }
-    ensures { result ≡ position_rows (book_by h s.now) }
+fn position_rows(rows: &Rows<'_>) -> bool
+    ensures { result ≡ position_rows (book_of rows.now) }
 {
-    let n = h.members;
-    let mut ok = true;
-    let mut m = 0;
-    while m < n {
-        ok = ok & position_row(s, h, m);
-        m += 1;
-    }
-    ok
+    (0..rows.head.members).all(|m| position_row(rows, m))
 }
 
-pub fn rows_ok(s: &[u8], h: Head) -> bool
-    requires { Shaped s.now h }
-    ensures { result ≡ rows_ok (book_by h s.now) }
+pub fn rows_ok(rows: &Rows<'_>) -> bool
+    ensures { result ≡ rows_ok (book_of rows.now) }
 {
-    contract_rows(s, h) & member_rows(s, h) & position_rows(s, h)
+    contract_rows(rows) & member_rows(rows) & position_rows(rows)
 }

@@ -1,38 +1,24 @@
 // A member's traded lots, over all contracts, against its accepted records.
 ghost use Rattle.std.specs.Prelude.{◌≡◌, ◌<◌};
-ghost use Rattle.book.specs.Books.{book_by};
-ghost use Rattle.book.specs.Accounts.{Shaped};
+ghost use Rattle.book.specs.Rows.{book_of};
 ghost use Rattle.validity.specs.Valid.{traded_of, traded_ok};
 
-use book::heads::Head;
+use book::lent::Rows;
 
-fn traded_lots(s: &[u8], h: Head, m: usize) -> u64
-    requires { Shaped s.now h × (m < h.members) }
-    ensures { result ≡ traded_of (book_by h s.now) m }
+fn traded_lots(rows: &Rows<'_>, m: usize) -> u64
+    requires { m < rows.now.head.members }
+    ensures { result ≡ traded_of (book_of rows.now) m }
 {
-    let k = h.contracts;
-    let mut sum: u64 = 0;
-    let mut j = 0;
-    while j < k {
-        let off = book::positions::position_off(h, m, j);
-        let p = book::positions::position_at(s, off);
-        sum += p.traded.0 as u64;
-        j += 1;
+    let mut sum = 0;
+    for j in 0..rows.head.contracts {
+        sum += u64::from(rows.position(m, j).traded.0);
     }
     sum
 }
 
-pub fn traded_ok(s: &[u8], h: Head) -> bool
-    requires { Shaped s.now h }
-    ensures { result ≡ traded_ok (book_by h s.now) }
+pub fn traded_ok(rows: &Rows<'_>) -> bool
+    ensures { result ≡ traded_ok (book_of rows.now) }
 {
-    let n = h.members;
-    let mut ok = true;
-    let mut m = 0;
-    while m < n {
-        let row = book::members::member_at(s, book::members::member_off(h, m));
-        ok = ok & (traded_lots(s, h, m) <= 10_000 * (row.accepted as u64));
-        m += 1;
-    }
-    ok
+    (0..rows.head.members).all(|m| traded_lots(rows, m)
+        <= 10_000 * u64::from(rows.member(m).accepted))
 }

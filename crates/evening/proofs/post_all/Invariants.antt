@@ -3,7 +3,7 @@ use Rattle.std.proofs.Common.{◌-◌, ◌≤◌}
 use Rattle.evening.proofs.post_all.Given as goal
 
 abbrev pub invariant-loop-place : goal.invariant-loop-place
-invariant-loop-place l = l.place ≤ l.count
+invariant-loop-place g l = l.place ≤ l.count
 
 abbrev pub decreases-loop-place : goal.decreases-loop-place
-decreases-loop-place l = l.count - l.place
+decreases-loop-place g l = l.count - l.place

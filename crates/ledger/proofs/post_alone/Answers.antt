@@ -3,4 +3,4 @@ use Rattle.ledger.proofs.post_alone.Goals as goal
 
 pub post_one-requires : goal.post_one-requires
 post_one-requires c =
-    (c.requires.0, c.requires.1, record { member = c.requires.2; contract = some_contract c.args.h c.args.s.now c.requires.0 c.requires.1 }, c.requires.3)
+    (c.requires.0, record { member = c.requires.1; contract = some_contract c.args.h c.args.s.now c.requires.0 })

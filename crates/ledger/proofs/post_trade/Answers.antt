@@ -4,8 +4,8 @@ use Rattle.ledger.proofs.post_trade.Goals as goal
 
 pub post_two-requires : goal.post_two-requires
 post_two-requires c =
-    let known = c.requires.2 in
-    (c.requires.0, c.requires.1, record { member = known.buyer; contract = known.contract }, (known.price, known.lots), record { member = known.seller; contract = known.contract }, (known.price, known.lots))
+    let known = c.requires.1 in
+    (c.requires.0, record { member = known.buyer; contract = known.contract }, record { member = known.seller; contract = known.contract })
 
 pub returns : goal.returns
 returns c =

@@ -5,18 +5,17 @@ use Rattle.sheet.specs.Sheet.{line_of, sheet_text}
 use Rattle.intake.proofs.outcome.put_sheet.Goals as goal
 
 pub loop-m-init : goal.loop-m-init
-loop-m-init c = (omega arith, omega arith, put_none _ c.put_header-at.result (line_of c.args.results.now))
+loop-m-init c = (omega arith, put_none _ c.put_header-at.result (line_of c.args.results.now))
 
 pub loop-m-preserved : goal.loop-m-preserved
 loop-m-preserved c =
     let put = c.put_line-at.ensures in (
-      omega arith,
-      omega (arith, put.upper_bound, c.loop-m.invariant.1),
-      put_next (line_of c.args.results.now) c.loop-m.m c.loop-m.invariant.2 put.put,
+      omega (arith, put.upper_bound, c.loop-m.invariant.0),
+      put_next (line_of c.args.results.now) c.loop-m.m c.loop-m.invariant.1 put.put,
     )
 
 pub returns-clause-put : goal.returns-clause-put
 unfolding sheet_text
 returns-clause-put c =
-    let e : c.loop-m.m ≡ c.args.members = omega (arith, c.loop-m.invariant.0, c.loop-m-test.false) in
-    put_then c.put_header-at.ensures.put (put_same (ap (bytes_to (line_of c.args.results.now)) e) c.loop-m.invariant.2)
+    let e : c.loop-m.m ≡ c.args.members = omega arith in
+    put_then c.put_header-at.ensures.put (put_same (ap (bytes_to (line_of c.args.results.now)) e) c.loop-m.invariant.1)

@@ -1,30 +1,35 @@
 -- Every product fits, so the machine's margin is exact.
-use mathlib.Core.Path.{ap}
+use mathlib.Core.Path.{◌≡◌, ◌∙◌, ap}
 use Prim.Native.Nat.{ℕ}
-use Rattle.numbers.specs.Computation.{Exp, nat, lit, ◌⊞◌, ◌⊠◌, ◌⊘◌}
-use Rattle.numbers.proofs.Computations.{fits, reads}
+use lib.IntN.{ℤ, pos, ◌+ℤ◌, ◌*ℤ◌}
+use lib.Signed.{quot_z}
+use Rattle.numbers.specs.Computation.{Exp, lit, ◌⊞◌, ◌⊠◌, ◌⊘◌}
+use Rattle.numbers.proofs.Computations.{fits, reads, widened}
 use Rattle.rules.specs.Units.{fen, Lots, Price}
 use Rattle.rules.specs.Ranges.{MarginIn}
 use Rattle.rules.proofs.margin.contract_margin.Goals as goal
 
-module _ {charged : Lots} {price : Price} {multiplier rate : ℕ} (h : MarginIn charged price multiplier rate) where
+module _ {charged : Lots} {price : Price} {multiplier rate : ℕ} (h : MarginIn charged price multiplier rate) {x y z : ℤ} (a : x ≡ pos charged.0) (b : y ≡ pos price.0) (d : z ≡ pos multiplier) where
   abbrev value : Exp
-  value = nat h.charged_in ⊠ nat h.price_in ⊠ nat h.multiplier_in
+  value = widened h.charged_in a ⊠ widened h.price_in b ⊠ widened h.multiplier_in d
 
-  abbrev product : Exp
-  product = value ⊠ nat h.rate_in
+  module _ {w : ℤ} (e : w ≡ pos rate) where
+    abbrev product : Exp
+    product = value ⊠ widened h.rate_in e
 
-  abbrev raised : Exp
-  raised = product ⊞ lit 9_999
+    abbrev raised : Exp
+    raised = product ⊞ lit 9_999
 
 pub overflow_mul-value-2 : goal.overflow_mul-value-2
-overflow_mul-value-2 c = fits (value c.requires) tt
+overflow_mul-value-2 c = fits (value c.requires c.from.ensures c.from-2.ensures c.from-3.ensures) tt
 
 pub overflow_mul-result : goal.overflow_mul-result
-overflow_mul-result c = fits (product c.requires) tt
+overflow_mul-result c = fits (product c.requires c.from.ensures c.from-2.ensures c.from-3.ensures c.from-4.ensures) tt
 
 pub overflow_add-result : goal.overflow_add-result
-overflow_add-result c = fits (raised c.requires) tt
+overflow_add-result c = fits (raised c.requires c.from.ensures c.from-2.ensures c.from-3.ensures c.from-4.ensures) tt
 
 pub returns : goal.returns
-returns c = ap fen (reads (raised c.requires ⊘ 10_000) tt)
+returns c =
+    ap fen (reads (raised c.requires c.from.ensures c.from-2.ensures c.from-3.ensures c.from-4.ensures ⊘ 10_000) tt
+    ∙ (λ i. quot_z (c.from.ensures i *ℤ c.from-2.ensures i *ℤ c.from-3.ensures i *ℤ c.from-4.ensures i +ℤ pos 9_999) (pos 10_000)))

@@ -18,10 +18,10 @@ module _ (kind : MemberKind) {figures : Figures} {deposits withdrawals room : Fe
   left = more ⊟ int h.withdrawals_in
 
 pub overflow_add-result : goal.overflow_add-result
-overflow_add-result c = fits (more c.args.kind c.requires c.room-room.ensures) tt
+overflow_add-result c = fits (more c.args.kind c.requires c.room.ensures) tt
 
 pub overflow_sub-result : goal.overflow_sub-result
-overflow_sub-result c = fits (left c.args.kind c.requires c.room-room.ensures) tt
+overflow_sub-result c = fits (left c.args.kind c.requires c.room.ensures) tt
 
 pub returns : goal.returns
-returns c = ap fen (reads (left c.args.kind c.requires c.room-room.ensures) tt ∙ cc)
+returns c = ap fen (reads (left c.args.kind c.requires c.room.ensures) tt ∙ cc)

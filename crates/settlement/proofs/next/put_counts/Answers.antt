@@ -5,8 +5,10 @@ use Rattle.book.specs.Heads.{head_fields}
 use Rattle.book.proofs.Places.{book_most}
 use Rattle.settlement.proofs.next.put_counts.Goals as goal
 
-pub overflow_cast-total : goal.overflow_cast-total
-overflow_cast-total c = omega (arith, book_most c.args.h c.requires.0 c.requires.1)
+pub overflow_cast-book_length : goal.overflow_cast-book_length
+overflow_cast-book_length c =
+    let rows = c.args.evening.now.rows in
+    omega (arith, book_most rows.head rows.shaped.members rows.shaped.contracts)
 
 pub returns : goal.returns
-returns c = cc (put_row (head_fields c.args.h) c.args.next.now 0 refl)
+returns c = cc (put_row (head_fields c.args.evening.now.rows.head) c.args.next.now 0 refl)

@@ -1,58 +1,61 @@
-use Rattle.std.proofs.Common.{arith, ◌≡◌, ◌≤◌, ◌∙◌, ◌++◌, ◌∷◌, [], ℕ, ℤ, List, sym, ap, length, length-append, w64, to_z, of_z, FitsSigned}
+use Rattle.std.proofs.Common.{arith, refl, ◌≡◌, ◌≤◌, ◌∙◌, ◌++◌, ◌∷◌, [], ℕ, ℤ, List, sym, ap, length, w64, to_z, of_z, FitsSigned}
+use Rattle.std.specs.Fmt.{signed_decimal}
 use Rattle.std.proofs.lemmas.Int.{to_z-of_z}
 use Rattle.wire.specs.LittleEndian.{Bytes}
 use Rattle.folds.specs.Laid.{bytes_to}
-use Rattle.folds.proofs.Laid.{bytes_none, bytes_next}
+use Rattle.folds.specs.Put.{Put}
 use Rattle.folds.proofs.Puts.{put_same, put_then, put_none, put_next}
 use Rattle.sheet.specs.Ascii.{space, line_feed}
+use Rattle.sheet.specs.Sheet.{field_at}
 use Rattle.sheet.specs.Decimal.{text_of}
-use Rattle.sheet.proofs.Decimals.{text_most}
-use Rattle.sheet.proofs.Sizes.{ended, ended_length, line_is, line_most}
+use Rattle.sheet.proofs.Decimals.{printed_signed, text_most}
+use Rattle.sheet.proofs.Sizes.{ended, field_fits, fields_most, line_is, line_most}
 use Rattle.sheet.proofs.lines.put_line.Goals as goal
 
--- the text put of a number z is the field's, and how long it is
-held : (z field : ℤ) → FitsSigned w64 z → z ≡ field → text_of (to_z w64 (of_z w64 z)) ≡ text_of field
-held z field f e = ap text_of (to_z-of_z w64 z f ∙ e)
+-- the text of the number that was read is the field's
+held : (z field : ℤ) → FitsSigned w64 field → z ≡ field → signed_decimal (to_z w64 (of_z w64 z)) ≡ text_of field
+held z field f e = ap (λ (y : ℤ). signed_decimal (to_z w64 (of_z w64 y))) e ∙ ap signed_decimal (to_z-of_z w64 field f) ∙ printed_signed field f
 
-short : (z field : ℤ) → FitsSigned w64 z → z ≡ field → length (text_of field) ≤ 20
-short z field f e = omega (arith, ap length (ap text_of e), text_most z f)
+short : (z : ℤ) → FitsSigned w64 z → length (signed_decimal (to_z w64 (of_z w64 z))) ≤ 20
+short z f = omega (arith, ap length (held z z f refl), text_most z f)
+
+put_held : {b a : List ℕ} {at r : ℕ} (z field : ℤ) (end : ℕ) → FitsSigned w64 field → z ≡ field → Put b a at (signed_decimal (to_z w64 (of_z w64 z)) ++ (end ∷ [])) r → Put b a at (text_of field ++ (end ∷ [])) r
+put_held z field end f e p = put_same (ap (λ (t : List ℕ). t ++ (end ∷ [])) (held z field f e)) p
 
 pub loop-field-init : goal.loop-field-init
-loop-field-init c =
-    let f = ended space c.args.results.now c.args.m in
-    (omega arith, omega (arith, ap length (bytes_none f)), put_none c.args.buffer.now c.args.at f)
+loop-field-init c = put_none c.args.buffer.now c.args.at (ended space c.args.results.now c.args.m)
 
-pub put_field-next-requires : goal.put_field-next-requires
-put_field-next-requires c =
-    let z = c.read_i64-z in
-    let f : FitsSigned w64 z.result = record { sfits = z.type_inv } in
-    omega (arith, c.requires.1, c.loop-field.invariant.1, c.loop-field.invariant.2.place, ap length (held z.result _ f z.ensures), short z.result _ f z.ensures)
+pub put_ended-next-requires : goal.put_ended-next-requires
+unfolding Bytes
+put_ended-next-requires c =
+    let xs = c.args.results.now in
+    let fits = field_fits xs c.args.m (λ i. (c.type_inv.results i).fits) in
+    omega (arith, c.requires.1, c.loop-field.invariant.place, fields_most xs c.args.m fits c.loop-field.field, short c.read-z.result (record { sfits = c.read-z.type_inv }))
 
 pub loop-field-preserved : goal.loop-field-preserved
+unfolding Bytes
 loop-field-preserved c =
-    let z = c.read_i64-z in
-    let s : FitsSigned w64 z.result = record { sfits = z.type_inv } in
-    let f = ended space c.args.results.now c.args.m in
-    let j = c.loop-field.field in (
-      omega arith,
-      omega (arith, ap length (bytes_next f j), length-append (bytes_to f j) (f j), ended_length space c.args.results.now c.args.m j, short z.result _ s z.ensures, c.loop-field.invariant.1),
-      put_next f j c.loop-field.invariant.2 (put_same (ap (λ (t : List ℕ). t ++ (space ∷ [])) (held z.result _ s z.ensures)) c.put_field-next.ensures),
-    )
+    let xs = c.args.results.now in
+    let j = c.loop-field.field in
+    put_next (ended space xs c.args.m) j c.loop-field.invariant (put_held _ _ space (field_fits xs c.args.m (λ i. (c.type_inv.results i).fits) j) c.read-z.ensures c.put_ended-next.ensures)
 
-pub put_field-requires : goal.put_field-requires
-put_field-requires c =
-    let z = c.read_i64-z-2 in
-    let f : FitsSigned w64 z.result = record { sfits = z.type_inv } in
-    omega (arith, c.requires.1, c.loop-field.invariant.1, c.loop-field.invariant.2.place, ap length (held z.result _ f z.ensures), short z.result _ f z.ensures)
+pub put_ended-requires : goal.put_ended-requires
+unfolding Bytes
+put_ended-requires c =
+    let xs = c.args.results.now in
+    let fits = field_fits xs c.args.m (λ i. (c.type_inv.results i).fits) in
+    omega (arith, c.requires.1, c.loop-field.invariant.place, fields_most xs c.args.m fits c.loop-field.field, short c.read-z-2.result (record { sfits = c.read-z-2.type_inv }))
 
 pub returns-clause-put : goal.returns-clause-put
+unfolding Bytes
 returns-clause-put c =
-    let z = c.read_i64-z-2 in
-    let f = ended space c.args.results.now c.args.m in
+    let xs = c.args.results.now in
+    let m = c.args.m in
+    let f = ended space xs m in
     let all : bytes_to f c.loop-field.field ≡ bytes_to f 8 = ap (bytes_to f) (omega arith) in
-    put_same (sym (line_is c.args.results.now c.args.m))
-    (put_then (put_same all c.loop-field.invariant.2)
-    (put_same (ap (λ (t : List ℕ). t ++ (line_feed ∷ [])) (held z.result _ (record { sfits = z.type_inv }) z.ensures)) c.put_field.ensures))
+    put_same (sym (line_is xs m))
+    (put_then (put_same all c.loop-field.invariant)
+    (put_held _ (field_at xs m 8) line_feed (field_fits xs m (λ i. (c.type_inv.results i).fits) 8) c.read-z-2.ensures c.put_ended.ensures))
 
 pub returns-clause-upper_bound : goal.returns-clause-upper_bound
 unfolding Bytes

@@ -1,4 +1,3 @@
-use Rattle.std.proofs.Common.{◌-◌, ◌*◌, ◌≤◌, length}
 use Rattle.folds.specs.Laid.{bytes_to}
 use Rattle.folds.specs.Put.{Put}
 use Rattle.sheet.specs.Ascii.{space}
@@ -6,7 +5,4 @@ use Rattle.sheet.proofs.Sizes.{ended}
 use Rattle.sheet.proofs.lines.put_line.Given as goal
 
 abbrev pub invariant-loop-field : goal.invariant-loop-field
-invariant-loop-field l = (l.field ≤ 8) × (length (bytes_to (ended space l.results l.m) l.field) ≤ 21 * l.field) × Put l.initial.buffer l.buffer l.at (bytes_to (ended space l.results l.m) l.field) l.next
-
-abbrev pub decreases-loop-field : goal.decreases-loop-field
-decreases-loop-field l = 8 - l.field
+invariant-loop-field l = Put l.initial.buffer l.buffer l.at (bytes_to (ended space l.results l.m) l.field) l.next

@@ -1,11 +1,17 @@
-use Rattle.std.proofs.Common.{arith, ◌+◌, ap, ◌∙◌, List, ℕ, get_or, set}
-use Rattle.folds.proofs.Puts.{copy_next}
+use Rattle.std.proofs.Common.{arith, refl, sym, ap, ◌∙◌, ◌+◌, ◌++◌, List, ℕ, length, take, drop}
+use Rattle.std.proofs.lemmas.Slice.{put_mid-paste}
+use Rattle.std.proofs.lemmas.List.Edits.{sets-eq}
+use Rattle.std.proofs.lemmas.List.{take_all}
 use Rattle.sheet.proofs.lines.put_text.Goals as goal
 
-pub loop-i-preserved : goal.loop-i-preserved
-loop-i-preserved c =
-    let a = c.args in
-    let i = c.loop-i.i in (
-      omega arith,
-      ap (λ (x : List ℕ). set x (a.at + i) (get_or a.text.now i 0)) c.loop-i.invariant.1 ∙ copy_next a.buffer.now a.text.now a.at i c.loop-i-test.true,
-    )
+pub returns : goal.returns
+returns c =
+    let b = c.args.buffer.now in
+    let t = c.args.text.now in
+    record {
+      bytes =
+          put_mid-paste c.args.at _ b _ t (length t) c.copy_from_slice.ensures.after (omega arith) refl
+          ∙ ap (λ (x : List ℕ). take c.args.at b ++ x ++ drop (c.args.at + length t) b) (take_all (length t) t (omega arith))
+          ∙ sym (sets-eq t b c.args.at (omega arith));
+      place = refl;
+    }

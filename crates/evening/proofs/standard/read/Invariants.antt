@@ -1,0 +1,9 @@
+-- What is left to be read falls at each turn.
+use Rattle.std.proofs.Common.{length, ◌-◌, ◌≤◌}
+use Rattle.evening.proofs.standard.read.Given as goal
+
+abbrev pub invariant-loop-done : goal.invariant-loop-done
+invariant-loop-done g l = l.done ≤ length l.buffer
+
+abbrev pub decreases-loop-done : goal.decreases-loop-done
+decreases-loop-done g l = length l.buffer - l.done

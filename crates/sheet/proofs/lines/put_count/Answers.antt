@@ -1,5 +1,0 @@
-use Rattle.folds.proofs.Puts.{put_byte}
-use Rattle.sheet.proofs.lines.put_count.Goals as goal
-
-pub returns : goal.returns
-returns c = put_byte c.put_number-last.ensures c.args.end

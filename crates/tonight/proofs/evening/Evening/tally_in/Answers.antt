@@ -1,0 +1,17 @@
+use Rattle.std.proofs.Common.{◌∙◌}
+use Rattle.tonight.specs.Prices.{prices_by}
+use Rattle.tonight.specs.Night.{tally_by, tally_in}
+use Rattle.tonight.proofs.Facts.{rows_in}
+use Rattle.tonight.proofs.Known.{known}
+use Rattle.tonight.proofs.evening.Evening.tally_in.Goals as goal
+
+pub contract_tally-requires : goal.contract_tally-requires
+contract_tally-requires c =
+    let e = c.args.self.now in
+    rw (c.prices_at.ensures, c.contract-c.ensures, c.position-p.ensures) (rows_in e.rows.bytes.now e.prices.now e.rows.head (known e) c.args.m c.args.j c.requires.0 c.requires.1)
+
+pub returns : goal.returns
+unfolding tally_in
+returns c =
+    let prices = c.prices_at.ensures ∙ (λ i. prices_by (c.contract-c.ensures i).last c.args.self.now.prices.now c.args.j) in
+    c.contract_tally.ensures ∙ (λ i. tally_by (c.contract-c.ensures i) (c.position-p.ensures i) (prices i))
