@@ -12,7 +12,7 @@ pub struct Head {
     pub contracts: usize,
 }
 
-// One line of the table of contents.
+// One line of the table of contents, whatever it says, as the definition `entry_at` has it.
 #[derive(Clone, Copy, PartialEq, Eq)]
 pub struct Entry {
     pub section: u32,
@@ -25,8 +25,8 @@ pub fn head_at(s: &[u8]) -> Head
     requires { head_size ≤ length s.now }
     ensures { result ≡ head_at s.now }
 {
-    let members = wire::read::<u16>(s, layout::MEMBERS) as usize;
-    let contracts = wire::read::<u16>(s, layout::CONTRACTS) as usize;
+    let members = usize::from(wire::read::<u16>(s, layout::MEMBERS));
+    let contracts = usize::from(wire::read::<u16>(s, layout::CONTRACTS));
     Head { members, contracts }
 }
 
@@ -35,8 +35,8 @@ pub fn entry_at(s: &[u8], off: usize) -> Entry
     requires { off + entry_size ≤ length s.now }
     ensures { result ≡ entry_at s.now off }
 {
-    let section = wire::read::<u16>(s, off + layout::SECTION) as u32;
-    let size = wire::read::<u16>(s, off + layout::ROW_SIZE) as usize;
+    let section = u32::from(wire::read::<u16>(s, off + layout::SECTION));
+    let size = usize::from(wire::read::<u16>(s, off + layout::ROW_SIZE));
     let start = wire::read::<u32>(s, off + layout::OFFSET) as usize;
     Entry {
         section,
@@ -45,7 +45,7 @@ pub fn entry_at(s: &[u8], off: usize) -> Entry
     }
 }
 
-// Where the sections begin, where the book ends, and what the table of contents says of each section. The counts' range stays a clause: a head is read before it is known, so the type cannot hold it.
+// Where the sections begin, where the book ends, and what the table of contents says of each section. The counts' range stays a clause: a second type of head, which is read before it is checked, would be no plainer.
 impl Head {
     pub fn members_start(self) -> usize
         requires { self.contracts ≤ 32 }

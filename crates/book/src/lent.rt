@@ -16,6 +16,7 @@ pub struct Rows<'a> {
     ghost shaped: { Shaped bytes.now head },
 }
 
+// A place in range stays a clause: it speaks of the place and the book, and a type of places would have to hold the book.
 impl Rows<'_> {
     ghost use Rattle.book.specs.Rows.{book_of};
 

@@ -1,4 +1,4 @@
-// Section 2: a member's row, in parts, so that a longer row is one part more.
+// Section 2: a member's row, in parts, so that a longer row is one part more. Rows are read and written alike in all three sections, each by its own fields, over `bytes_at` and `put_bytes`.
 ghost use Rattle.std.specs.Prelude.{◌≡◌, ◌+◌, ◌≤◌, length};
 ghost use Rattle.folds.specs.Rows.{put_fields, row_bytes};
 ghost use Rattle.book.specs.Layout.{member_size, member_off};
@@ -39,7 +39,7 @@ pub fn member_off(h: Head, m: usize) -> usize
     h.members_start() + m * layout::MEMBER
 }
 
-// A number other than 1 and 2 is no kind; the book that has one is not valid.
+// A number other than 1 and 2 is no kind, and the book that has one is not valid; the definition is total, and so is this.
 fn kind_of(number: u32) -> MemberKind
     ensures { result ≡ kind_of number }
 {

@@ -1,4 +1,4 @@
-// What others link: the functions of `clearing`, exported, and nothing else. None asks anything of its caller.
+// What others link: the functions of `clearing`, exported, and nothing else. None asks anything of its caller. They stand twice and answer by number, since a crate is a library or what C links, and C takes numbers.
 #![tactic(auto)]
 
 ghost use Rattle.std.specs.Prelude.{◌≡◌, length};

@@ -18,7 +18,7 @@ use posting::records::{Pairing, Request, Trade};
 use posting::{lending, postings, reading};
 use rules::refusals::Refusal;
 
-// The functions below take the bytes and their head, and a clause says that they are a valid book: a type would have to hold it after the posting too, which is `kept`, a theorem of `promises`, so its proof would not close here.
+// The functions below take the bytes and their head, and a clause says that they are a valid book: a type would have to hold it after the posting too, and that is `kept`, a theorem of `promises`, which stands above this crate.
 
 // An account that a record names, by its place, and what the record asks of it.
 #[derive(Clone, Copy)]
@@ -56,6 +56,7 @@ fn post_two(s: &mut [u8], h: Head, first: NamedAccount, second: NamedAccount) ->
     Ok(())
 }
 
+// A trade and a pairing differ in their entries and in their definitions: each names its two accounts, and `post_two` is theirs both.
 fn post_trade(s: &mut [u8], h: Head, t: Trade) -> Result<(), Refusal>
     requires { IsBookOf h s.old × TradeIn h t }
     ensures value { answered result ≡ says_to h s.old (Some (Trading t)) }

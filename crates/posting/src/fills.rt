@@ -58,6 +58,7 @@ impl Party {
         }
     }
 
+    // The highest price and the most lots of a record stay clauses: they are fields of several types, and a type of each would be no plainer.
     fn paid(self, price: Price, n: Lots, cash: Fen) -> Fen
         requires { In (2 * 10 ^ 15) cash.0 × (price.0 ≤ 10_000_000) × (n.0 ≤ 10_000) }
         ensures { result ≡ paid self price n cash }

@@ -9,6 +9,7 @@ use crate::postings;
 use book::accounts::Account;
 use rules::refusals::Refusal;
 
+// `PostedIn` stays a clause: it speaks of the account and the entry.
 pub fn post(a: &mut Account, e: Entry) -> Result<(), Refusal>
     requires { PostedIn a.old e }
     ensures { (answered result ≡ (posted_of a.old e).answer) × (a.new ≡ (posted_of a.old e).account) }

@@ -77,6 +77,7 @@ impl ValidAccount {
         left.0 < p.amount.0
     }
 
+    // The most lots of a record stay a clause, here and below: they are a field of several types.
     fn fill(self, way: Way, lots: Lots) -> Fill
         requires { lots.0 ≤ 10_000 }
         ensures { (result.lots ≡ lots) × (result.side ≡ side_on way self.account.position) }

@@ -86,6 +86,7 @@ fn pledge_fits(h: Head, q: Record) -> bool
         & (q.blank == 0)
 }
 
+// Numbers are narrowed by `as` where the tests have shown their range: `TryFrom` would make an error that cannot come.
 #[tactic(auto, unfolding(crate::specs::Records::read_trade))]
 fn read_trade(h: Head, q: Record) -> Option<Request>
     ensures { result ≡ read_trade h q }

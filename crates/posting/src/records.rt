@@ -1,14 +1,14 @@
 // A day record: its fields as they stand, and what it asks for.
 use rules::units::{Fen, Lots, Price};
 
-// The two marks of a record.
+// The two marks of a record, as they stand: the definition `record_at` is of the bytes, and `Mark` is what reads them.
 #[derive(Clone, Copy)]
 pub struct Marks {
     pub first: u8,
     pub second: u8,
 }
 
-// The fields of 24 bytes, whatever they say.
+// The fields of 24 bytes, whatever they say, as the definition `record_at` has them; `Kind` is what reads the kind.
 #[derive(Clone, Copy)]
 pub struct Record {
     pub kind: u8,

@@ -7,7 +7,7 @@ use crate::money::money;
 use crate::securities::usable;
 use crate::units::{Fen, Figures, Movements};
 
-// The movements come apart, since the clause names each of the four amounts.
+// The movements come apart: a struct would be taken apart in the clause, which names each of the four amounts.
 pub fn money_tonight(money: Fen, profit: Fen, deposits: Fen, withdrawals: Fen, fee: Fen) -> Fen
     requires { MoneyTonightIn money profit deposits withdrawals fee }
     ensures { result ≡ money_tonight_of money profit deposits withdrawals fee }

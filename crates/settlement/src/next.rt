@@ -53,7 +53,7 @@ fn put_head(evening: &Evening<'_>, next: &mut [u8])
     );
 }
 
-// Contract j's row: tonight's price as last price.
+// Contract j's row: tonight's price as last price. A place in range stays a clause, here and below, as in `Evening`.
 fn next_contract(evening: &Evening<'_>, j: usize) -> Contract
     requires { j < evening.now.rows.head.contracts }
     ensures { result ≡ next_contract (book_of evening.now.rows) evening.now.prices.now j }

@@ -14,7 +14,7 @@ pub fn held(s: Side) -> Lots
     Lots(s.opening.0 - s.closed.0 + s.new.0)
 }
 
-// held_sides, opening_sides and paired_sides are alike and stay three: each is public, with a clause of its own.
+// `held_sides`, `opening_sides` and `paired_sides` are alike but for what they take of a side; `held` asks `SideIn`, the others nothing, so that one over a closure would be no plainer.
 pub fn held_sides(p: Position) -> Sides
     requires { PositionIn p }
     ensures { result ≡ held_sides p }

@@ -5,6 +5,7 @@ ghost use Rattle.validity.specs.Valid.{traded_of, traded_ok};
 
 use book::lent::Rows;
 
+// A place in range stays a clause, as in rows.rt.
 fn traded_lots(rows: &Rows<'_>, m: usize) -> u64
     requires { m < rows.now.head.members }
     ensures { result ≡ traded_of (book_of rows.now) m }

@@ -1,4 +1,4 @@
-// The numbers of the book: u16, u32, u64 and i64.
+// The numbers of the book: u16, u32, u64 and i64. The impls of u16, u32 and u64 are alike: an impl by a macro is refused.
 ghost use Rattle.std.specs.Prelude.{◌≡◌, ◌+◌, ◌≤◌, ℕ, List, length, take, drop};
 ghost use Rattle.std.specs.List.{replace_range};
 ghost use Rattle.wire.specs.LittleEndian.{number_at, put_number, signed_at, put_signed};
