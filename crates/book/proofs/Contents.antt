@@ -1,5 +1,5 @@
 -- The head and the table of contents: the same bytes are read as the same, and an entry that was laid down reads back.
-use mathlib.Core.Path.{◌≡◌, refl, ◌∙◌, subst}
+use mathlib.Core.Path.{◌≡◌, refl, ◌∙◌}
 use mathlib.Core.List.{List}
 use Prim.{tt}
 use Prim.Native.Nat.{ℕ, ◌+◌, ◌^◌, ◌≤◌, ◌<◌}
@@ -8,7 +8,6 @@ use native.Mathlib.Omega.{arith}
 use lib.Dec.{lit<}
 use lib.ListN.{length}
 use lib.Seq.{sets}
-use Rattle.wire.specs.LittleEndian.{number_at}
 use Rattle.folds.specs.Rows.{row_bytes}
 use Rattle.folds.proofs.Rows.{row_back}
 use Rattle.book.specs.Layout.{head_size, entry_size, section_at, row_size_at, offset_at, members_at, contracts_at}
@@ -25,7 +24,7 @@ same_entry_lem ys xs o s = rw (s section_at 2 (omega arith), s row_size_at 2 (om
 
 -- an entry of the table of contents within the head
 pub same_within : (ys xs : List ℕ) → Same ys xs 0 head_size → (o : ℕ) → o + entry_size ≤ head_size → entry_at ys o ≡ entry_at xs o
-same_within ys xs s o l = same_entry_lem ys xs o (λ at w q. subst (λ (i : ℕ). number_at ys i w ≡ number_at xs i w) (zero-add (o + at)) (s (o + at) w (omega arith)))
+same_within ys xs s o l = same_entry_lem ys xs o (λ at w q. rw zero-add at (s (o + at) w (omega arith)))
 
 pub record EntryFits (e : Entry) : Type 0 where
   pub section : e.section < 2 ^ 16

@@ -1,14 +1,12 @@
 -- A row that was laid down reads back, what lies apart from it stays, and rows apart may be laid down in either order.
-use mathlib.Core.Path.{◌≡◌, refl, sym, ap, ◌∙◌}
-use mathlib.Core.Logic.{◌≢◌}
-use mathlib.Core.Bool.{Bool, true, false, cond}
+use mathlib.Core.Path.{◌≡◌, refl, ap, ◌∙◌}
+use mathlib.Core.Bool.{true}
 use mathlib.Core.List.{List}
 use Prim.{tt}
 use Prim.Native.Nat.{ℕ, ◌+◌, ◌^◌, ◌%◌, ◌≤◌, ◌<◌}
 use native.Mathlib.Nat.{zero-add, add_assoc, mod-eq_of_lt}
 use native.Mathlib.Omega.{arith}
-use borrow.Author.Tests.{eqb-true, eqb-false}
-use lib.Dec.{eqb, lit<}
+use lib.Dec.{lit<}
 use lib.ListN.{length, take, drop}
 use lib.Seq.{sets, length-sets}
 use mir.Syntax.{w64}
@@ -18,13 +16,12 @@ use lib.IntN.{ℤ}
 use Rattle.rules.specs.declared.units.Fen.{Fen}
 use Rattle.rules.specs.declared.units.Figures.{Figures}
 use Rattle.rules.specs.declared.members.MemberKind.{MemberKind}
-use Rattle.rules.specs.declared.members.MemberKind.TheVariants.{Broker, Other}
+use Rattle.std.proofs.lemmas.Bool.Decides.{nat_tests}
 use Rattle.wire.specs.LittleEndian.{number_at, Apart}
 use Rattle.wire.proofs.Places.{apart_sym, apart_part}
 use Rattle.wire.proofs.Numbers.{number_part}
 use Rattle.folds.specs.Tests.{between}
 use Rattle.folds.specs.Rows.{Field, row_bytes, widths}
-use Rattle.folds.proofs.Tests.{between_low, between_high}
 use Rattle.folds.proofs.Rows.{length_row, row_back}
 use Rattle.folds.proofs.Laid.{number_stays, sets_sets}
 use Rattle.book.specs.Layout.{contract_size, member_size, position_size, last_at, multiplier_at, rate_at, fee_at, delivery_at, contract_zero_at, kind_at, accepted_at, reserve_at, margin_at, usable_at, market_at, discount_at, deposits_at, withdrawals_at, long_at, short_at, opening_at, closed_at, new_at, paired_at, cash_at, traded_at, position_zero_at}
@@ -120,10 +117,6 @@ pub put_position_stays : (xs : List ℕ) (o : ℕ) (r : Position) (o' size : ℕ
 unfolding put_position
 put_position_stays xs o r o' size p = laid_stays xs o (position_fields r) position_size o' size refl p
 
-pub length_contract : (xs : List ℕ) (o : ℕ) (r : Contract) → length (put_contract xs o r) ≡ length xs
-unfolding put_contract
-length_contract xs o r = length-sets xs o (row_bytes (contract_fields r))
-
 pub length_member : (xs : List ℕ) (o : ℕ) (r : Member) → length (put_member xs o r) ≡ length xs
 unfolding put_member
 length_member xs o r = length-sets xs o (row_bytes (member_fields r))
@@ -191,23 +184,17 @@ signed_back : (n : ℕ) (z : ℤ) → SFits w64 z → n ≡ of_z w64 z → to_z 
 signed_back n z f e = ap (to_z w64) e ∙ to_z-of_z w64 z f
 
 kind_small : (k : MemberKind) → kind_number k < 256 ^ 4
-kind_small Broker = lit< tt
-kind_small Other = lit< tt
+kind_small k = grind arith
 
 pub kind_back : (k : MemberKind) → kind_of (kind_number k) ≡ k
-kind_back Broker = refl
-kind_back Other = refl
+kind_back k = grind arith
 
 -- the number of a kind is one of the two, and each of the two is a kind's
 pub kind_known : (k : MemberKind) → between 1 2 (kind_number k) ≡ true
-kind_known Broker = refl
-kind_known Other = refl
+kind_known k = grind (arith, nat_tests)
 
 pub kind_is : (n : ℕ) → between 1 2 n ≡ true → kind_number (kind_of n) ≡ n
-kind_is n e = elim (eqb n 1) as (λ (t : Bool). eqb n 1 ≡ t → kind_number (cond t Broker Other) ≡ n) [
-  | true ↦ λ f. sym (eqb-true n 1 f)
-  | false ↦ λ f. let ne : n ≢ 1 = eqb-false n 1 f in omega (arith, between_low 1 2 n e, between_high 1 2 n e)
-] refl
+kind_is n e = grind (arith, nat_tests)
 
 pub money_back : (n : ℕ) (amount : Fen) → SFits w64 amount.0 → n ≡ of_z w64 amount.0 % 256 ^ 8 → to_z w64 n ≡ amount.0
 money_back n amount f e = signed_back n amount.0 f (e ∙ mod-eq_of_lt (of_z_fits w64 amount.0 f).fits)

@@ -7,7 +7,7 @@ use Rattle.std.specs.Fn.{Mut, Called}
 use Rattle.std.specs.Iterator.{YieldsThen}
 use Rattle.std.proofs.Common.{ℕ, zero, suc, ◌+◌, Bool, true, false, ◌≡◌, refl, sym, ap, ◌∙◌, List, [], ◌∷◌, Option, MatchOption, arith}
 use mathlib.Core.Path.{ap₂}
-use mathlib.Core.Bool.{◌&&◌}
+use mathlib.Core.Bool.{◌&&◌, and-true}
 use Rattle.std.proofs.iter.Yields.{nat_range_steps}
 use Rattle.std.proofs.lemmas.Iterator.{YieldsList-from_range}
 use Rattle.std.proofs.lemmas.Iterator.Search.{all_from_yields_List}
@@ -15,10 +15,6 @@ use Rattle.std.proofs.lemmas.List.Folds.{list_all-append, list_all-map}
 use Rattle.std.proofs.lemmas.List.FromFn.{map-range_with_len_more}
 use Rattle.folds.specs.Tests.{all_to}
 use Rattle.folds.proofs.Tests.{all_none, all_next}
-
-and_true : (b : Bool) → (b && true) ≡ b
-and_true true = refl
-and_true false = refl
 
 list_all-range : (f : ℕ → Bool) (n : ℕ) → list_all f (range_with_len 0 n) ≡ all_to f n
 list_all-range f zero = sym (all_none f)
@@ -29,7 +25,7 @@ list_all-range f (suc n) =
     ∙ sym (held (range_with_len 0 (n + 1)))
     ∙ ap (list_all (λ b. b)) (map-range_with_len_more f 0 n n (omega arith))
     ∙ list_all-append (λ b. b) (map f (range_with_len 0 n)) (f n ∷ [])
-    ∙ ap₂ (λ (x y : Bool). x && y) (held (range_with_len 0 n) ∙ list_all-range f n) (and_true (f n))
+    ∙ ap₂ (λ (x y : Bool). x && y) (held (range_with_len 0 n) ∙ list_all-range f n) (and-true (f n))
     ∙ sym (all_next f n)
     ∙ ap (all_to f) (sym next)
 

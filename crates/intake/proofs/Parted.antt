@@ -1,7 +1,7 @@
 -- The records of a piece are its bytes: each whole one has 24, a short one at the end has what is left. And a short one is refused, as any is on a book that is not valid.
 use mathlib.Core.Path.{◌≡◌, refl, sym, ap, ◌∙◌}
 use mathlib.Core.Bool.{true, false}
-use mathlib.Core.List.{List, ◌++◌}
+use mathlib.Core.List.{List}
 use Prim.Native.Nat.{ℕ, zero, suc, ◌+◌, ◌*◌, ◌/◌, ◌%◌, ◌<◌}
 use native.Mathlib.Omega.{arith}
 use borrow.Author.Tests.{ne_eqb}
@@ -10,7 +10,7 @@ use lib.Seq.{take-add, take_all}
 use Rattle.numbers.specs.Fold.{fold_to}
 use Rattle.folds.specs.Laid.{bytes_to}
 use Rattle.validity.specs.Valid.{valid_book}
-use Rattle.order.specs.Lens.{Posting, gets, puts, add_all}
+use Rattle.order.specs.Lens.{Posting, gets}
 use Rattle.book.specs.declared.accounts.Account.{Account}
 use Rattle.book.specs.Heads.{head_at}
 use Rattle.std.specs.Prelude.{Option, None}
@@ -24,10 +24,8 @@ records_first : (xs : List ℕ) (n : ℕ) → bytes_to (record_bytes xs) n ≡ t
 unfolding fold_to record_bytes
 records_first xs zero = refl
 records_first xs (suc n) =
-    let e : n * record_size + record_size ≡ suc n * record_size = omega arith in
-    ap (λ (t : List ℕ). t ++ take record_size (drop (n * record_size) xs)) (records_first xs n)
-    ∙ sym (take-add (n * record_size) record_size xs)
-    ∙ ap (λ (k : ℕ). take k xs) e
+    let e : suc n * record_size ≡ n * record_size + record_size = omega arith in
+    rw (records_first xs n, e) (sym (take-add (n * record_size) record_size xs))
 
 -- one after the other: no byte is left out, and none is read twice
 pub records_all : (xs : List ℕ) → bytes_to (record_bytes xs) (records_in (length xs)) ≡ xs
@@ -58,10 +56,7 @@ module _ (book r : List ℕ) where
   pub short_changes_nothing : valid_book book ≡ true → (length r ≡ record_size → ⊥) → after book r ≡ book
   unfolding after
   short_changes_nothing v h =
-      rw v
-      (ap
-      (λ (q : Option Request). add_all accounts (head_at book) (puts accounts (head_at book) book (places_for q) (posting_for q).become) (posting_for q).adds)
-      (no_request h))
+      rw (v, no_request h)
 
   pub all_refused : valid_book book ≡ false → answer book r ≡ 10
   unfolding answer

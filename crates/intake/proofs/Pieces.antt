@@ -1,8 +1,8 @@
 -- Records that are posted piece by piece are posted as if they were one piece: the same lines, and the same book. The program may part its input between any two records.
-use mathlib.Core.Path.{◌≡◌, refl, sym, ap, ap₂, ◌∙◌}
+use mathlib.Core.Path.{◌≡◌, refl, ap, ap₂, ◌∙◌}
 use mathlib.Core.List.{List, ◌++◌, append_assoc, append-nil}
 use Prim.Native.Nat.{ℕ, zero, suc, ◌+◌, ◌*◌, ◌≤◌, ◌<◌}
-use native.Mathlib.Nat.{add-zero}
+use native.Mathlib.Nat.{add-zero, add-suc}
 use native.Mathlib.Omega.{arith}
 use lib.ListN.{length, take, drop, length-append, length-drop}
 use lib.Seq.{take-append-le, drop-append-le, drop-append-add}
@@ -15,12 +15,8 @@ use Rattle.intake.specs.Posted.{book_after, answer_to, answer_line, lines_to, re
 
 bytes_split : (f : ℕ → List ℕ) (m n : ℕ) → bytes_to f (m + n) ≡ bytes_to f m ++ bytes_to (λ (i : ℕ). f (m + i)) n
 unfolding fold_to
-bytes_split f m zero = ap (bytes_to f) (add-zero m) ∙ sym (append-nil (bytes_to f m))
-bytes_split f m (suc n) =
-    let e : m + suc n ≡ suc (m + n) = omega arith in
-    ap (bytes_to f) e
-    ∙ ap (λ (t : List ℕ). t ++ f (m + n)) (bytes_split f m n)
-    ∙ append_assoc (bytes_to f m) (bytes_to (λ (i : ℕ). f (m + i)) n) (f (m + n))
+bytes_split f m zero = rw (add-zero m, append-nil (bytes_to f m))
+bytes_split f m (suc n) = rw (add-suc m n, bytes_split f m n, append_assoc)
 
 -- m whole records, and what follows them
 module _ (book first rest : List ℕ) (m : ℕ) (whole : length first ≡ m * record_size) where
@@ -34,7 +30,7 @@ module _ (book first rest : List ℕ) (m : ℕ) (whole : length first ≡ m * re
   unfolding record_bytes
   record_rest i =
       let e : (m + i) * record_size ≡ length first + i * record_size = omega arith in
-      ap (λ (k : ℕ). take record_size (drop k (first ++ rest))) e ∙ ap (take record_size) (drop-append-add first rest (i * record_size))
+      rw (e, drop-append-add first rest (i * record_size))
 
   book_first : (n : ℕ) → n ≤ m → book_after book (first ++ rest) n ≡ book_after book first n
   unfolding book_after
@@ -44,9 +40,7 @@ module _ (book first rest : List ℕ) (m : ℕ) (whole : length first ≡ m * re
   book_rest : (n : ℕ) → book_after book (first ++ rest) (m + n) ≡ book_after (book_after book first m) rest n
   unfolding book_after
   book_rest zero = ap (book_after book (first ++ rest)) (add-zero m) ∙ book_first m (omega arith)
-  book_rest (suc n) =
-      let e : m + suc n ≡ suc (m + n) = omega arith in
-      ap (book_after book (first ++ rest)) e ∙ ap₂ after (book_rest n) (record_rest n)
+  book_rest (suc n) = rw (add-suc m n) (ap₂ after (book_rest n) (record_rest n))
 
   answer_first : (i : ℕ) → i < m → answer_to book (first ++ rest) i ≡ answer_to book first i
   unfolding answer_to
@@ -60,16 +54,8 @@ module _ (book first rest : List ℕ) (m : ℕ) (whole : length first ≡ m * re
   lines_both place n =
       bytes_split (λ (i : ℕ). answer_line (place + i) (answer_to book (first ++ rest) i)) m n
       ∙ ap₂ ◌++◌
-      (bytes_ext
-      (λ (i : ℕ). answer_line (place + i) (answer_to book (first ++ rest) i))
-      (λ (i : ℕ). answer_line (place + i) (answer_to book first i))
-      m
-      (λ i h. ap (answer_line (place + i)) (answer_first i h)))
-      (bytes_ext
-      (λ (i : ℕ). answer_line (place + (m + i)) (answer_to book (first ++ rest) (m + i)))
-      (λ (i : ℕ). answer_line (place + m + i) (answer_to (book_after book first m) rest i))
-      n
-      (λ i h. let e : place + (m + i) ≡ place + m + i = omega arith in ap₂ answer_line e (answer_rest i)))
+      (bytes_ext _ _ m (λ i h. ap (answer_line (place + i)) (answer_first i h)))
+      (bytes_ext _ _ n (λ i h. let e : place + (m + i) ≡ place + m + i = omega arith in ap₂ answer_line e (answer_rest i)))
 
   in_first : records_in (length first) ≡ m
   in_first = omega arith
@@ -78,13 +64,7 @@ module _ (book first rest : List ℕ) (m : ℕ) (whole : length first ≡ m * re
   in_both = omega (arith, length-append first rest)
 
   pub pieces_book : book_posted book (first ++ rest) ≡ book_posted (book_posted book first) rest
-  pieces_book =
-      ap (book_after book (first ++ rest)) in_both
-      ∙ book_rest (records_in (length rest))
-      ∙ ap (λ (k : ℕ). book_after (book_after book first k) rest (records_in (length rest))) (sym in_first)
+  pieces_book = rw (in_both, in_first) (book_rest (records_in (length rest)))
 
   pub pieces_lines : (place : ℕ) → refused_lines book (first ++ rest) place ≡ refused_lines book first place ++ refused_lines (book_posted book first) rest (place + m)
-  pieces_lines place =
-      ap (lines_to book (first ++ rest) place) in_both
-      ∙ lines_both place (records_in (length rest))
-      ∙ ap (λ (k : ℕ). lines_to book first place k ++ lines_to (book_after book first k) rest (place + m) (records_in (length rest))) (sym in_first)
+  pieces_lines place = rw (in_both, in_first) (lines_both place (records_in (length rest)))

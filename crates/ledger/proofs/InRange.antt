@@ -64,12 +64,12 @@ module _ (xs : List ℕ) (e : valid_book xs ≡ true) (p : Place) (w : Within (h
       }
 
 -- by a head that is the book's
-pub shaped_by : (h : Head) (xs : List ℕ) → IsBookOf h xs → Shaped xs h
-shaped_by h xs k = subst (λ (g : Head). Shaped xs g) (sym k.head) (valid_shaped xs k.valid)
+pub shaped_by : {h : Head} {xs : List ℕ} → IsBookOf h xs → Shaped xs h
+shaped_by {h} {xs} k = subst (λ (g : Head). Shaped xs g) (sym k.head) (valid_shaped xs k.valid)
 
-pub account_by : (h : Head) (xs : List ℕ) (p : Place) → IsBookOf h xs → Within h p → AccountIn (account_at h xs p)
-account_by h xs p k w = subst (λ (g : Head). AccountIn (account_at g xs p)) (sym k.head) (account_in xs k.valid p (subst (λ (g : Head). Within g p) k.head w))
+pub account_by : {h : Head} {xs : List ℕ} {p : Place} → IsBookOf h xs → Within h p → AccountIn (account_at h xs p)
+account_by {h} {xs} {p} k w = subst (λ (g : Head). AccountIn (account_at g xs p)) (sym k.head) (account_in xs k.valid p (subst (λ (g : Head). Within g p) k.head w))
 
 -- the first contract is there
-pub some_contract : (h : Head) (xs : List ℕ) → IsBookOf h xs → 0 < h.contracts
-some_contract h xs k = omega (arith, has_contract xs (valid_head xs k.valid), ap (λ (g : Head). g.contracts) k.head)
+pub some_contract : {h : Head} {xs : List ℕ} → IsBookOf h xs → 0 < h.contracts
+some_contract {h} {xs} k = omega (arith, has_contract xs (valid_head xs k.valid), ap (λ (g : Head). g.contracts) k.head)

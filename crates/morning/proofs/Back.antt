@@ -49,15 +49,6 @@ module _ (b : Book) (ps : List ℕ) where
       next_parts b ps whole ∙ sets_over whole whole (le_refl (length whole))
       ∙ ap (λ (l : List ℕ). whole ++ l) (drop-length whole) ∙ append-nil whole
 
-  headed_length : length headed ≡ book_length h
-  headed_length = length-sets whole 0 (head_bytes h) ∙ next_length b ps
-
-  listed_length : length listed ≡ book_length h
-  listed_length = length-sets headed contracts_start (bytes_to (contract_bytes b ps) h.contracts) ∙ headed_length
-
-  owned_length : length owned ≡ book_length h
-  owned_length = length-sets listed (members_start h) (bytes_to (member_bytes b ps) h.members) ∙ listed_length
-
   -- what stands before the positions, the members and the contracts
   before_positions : (off w : ℕ) → off + w ≤ positions_start h → number_at whole off w ≡ number_at owned off w
   before_positions off w l =
@@ -78,17 +69,16 @@ module _ (b : Book) (ps : List ℕ) where
   next_contract_lem j l f =
       let f' = contract_bytes b ps in
       let before_row = sets headed contracts_start (bytes_to f' j) in
-      let n : length before_row ≡ book_length h = length-sets headed contracts_start (bytes_to f' j) ∙ headed_length in
       same_contract whole (put_contract before_row (contract_off j) (next_contract b ps j)) (contract_off j)
       (λ at w q. before_members (contract_off j + at) w (omega arith) ∙ rows_back headed contracts_start contract_size f' (contract_size_lem b ps) h.contracts j l at w q)
-      ∙ contract_back before_row (contract_off j) (next_contract b ps j) (omega (arith, n, contract_within h j l)) f
+      ∙ contract_back before_row (contract_off j) (next_contract b ps j) (simp length-sets (omega (arith, next_length b ps, contract_within h j l))) f
 
   module _ (m : ℕ) (l : m < h.members) where
     abbrev before_row : List ℕ
     before_row = sets listed (members_start h) (bytes_to (member_bytes b ps) m)
 
     room : member_off h m + member_size ≤ length before_row
-    room = omega (arith, length-sets listed (members_start h) (bytes_to (member_bytes b ps) m), listed_length, member_within h m l)
+    room = simp length-sets (omega (arith, next_length b ps, member_within h m l))
 
     member_same : Same whole (put_member before_row (member_off h m) (next_member b ps m)) (member_off h m) member_size
     unfolding member_off put_member
@@ -114,7 +104,7 @@ module _ (b : Book) (ps : List ℕ) where
     unfolding position_off put_position
     next_position_lem j q f =
         same_position whole (put_position kept (position_off h m j) (next_position b m j)) (position_off h m j) same
-        ∙ position_back kept (position_off h m j) (next_position b m j) (omega (arith, length-sets before_rows start (bytes_to (position_bytes b m) j), length-sets owned (positions_start h) (bytes_to (positions_bytes b) m), owned_length, position_within h m j l q)) f
+        ∙ position_back kept (position_off h m j) (next_position b m j) (simp length-sets (omega (arith, next_length b ps, position_within h m j l q))) f
       where
         kept : List ℕ
         kept = sets before_rows start (bytes_to (position_bytes b m) j)
@@ -145,15 +135,6 @@ module _ (b : Book) (ps : List ℕ) where
   abbrev third : List ℕ
   third = sets second (entry_off 2) (row_bytes (entry_fields (positions_entry h)))
 
-  counted_length : length counted ≡ book_length h
-  counted_length = length-sets whole 0 (row_bytes (head_fields h)) ∙ next_length b ps
-
-  first_length : length first ≡ book_length h
-  first_length = length-sets counted (entry_off 0) (row_bytes (entry_fields contracts_entry)) ∙ counted_length
-
-  second_length : length second ≡ book_length h
-  second_length = length-sets first (entry_off 1) (row_bytes (entry_fields (members_entry h))) ∙ first_length
-
   in_head : (off w : ℕ) → off + w ≤ head_size → number_at whole off w ≡ number_at third off w
   in_head off w l = before_contracts off w l ∙ ap (λ (xs : List ℕ). number_at xs off w) (sym (head_parts h whole))
 
@@ -183,14 +164,14 @@ module _ (b : Book) (ps : List ℕ) where
     pub next_contracts_entry : entry_at whole (entry_off 0) ≡ contracts_entry
     next_contracts_entry =
         same_entry_lem whole first (entry_off 0) (λ at w l. in_first (entry_off 0 + at) w (omega arith))
-        ∙ entry_back counted (entry_off 0) contracts_entry (omega (arith, counted_length, head_within h)) (record { section = lit< tt; size = lit< tt; start = lit< tt })
+        ∙ entry_back counted (entry_off 0) contracts_entry (simp length-sets (omega (arith, next_length b ps, head_within h))) (record { section = lit< tt; size = lit< tt; start = lit< tt })
 
     pub next_members_entry : entry_at whole (entry_off 1) ≡ members_entry h
     next_members_entry =
         same_entry_lem whole second (entry_off 1) (λ at w l. in_second (entry_off 1 + at) w (omega arith))
-        ∙ entry_back first (entry_off 1) (members_entry h) (omega (arith, first_length, head_within h)) (record { section = lit< tt; size = lit< tt; start = omega arith })
+        ∙ entry_back first (entry_off 1) (members_entry h) (simp length-sets (omega (arith, next_length b ps, head_within h))) (record { section = lit< tt; size = lit< tt; start = omega arith })
 
     pub next_positions_entry : entry_at whole (entry_off 2) ≡ positions_entry h
     next_positions_entry =
         same_entry_lem whole third (entry_off 2) (λ at w l. in_head (entry_off 2 + at) w (omega arith))
-        ∙ entry_back second (entry_off 2) (positions_entry h) (omega (arith, second_length, head_within h)) (record { section = lit< tt; size = lit< tt; start = omega arith })
+        ∙ entry_back second (entry_off 2) (positions_entry h) (simp length-sets (omega (arith, next_length b ps, head_within h))) (record { section = lit< tt; size = lit< tt; start = omega arith })

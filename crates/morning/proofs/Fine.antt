@@ -10,9 +10,10 @@ use borrow.Author.Tests.{leb-true}
 use lib.Dec.{eqb, lit≤}
 use lib.IntN.{nat_abs}
 use lib.ListN.{length, get_or}
+use Rattle.std.proofs.lemmas.Bool.{and_parts}
 use Rattle.numbers.proofs.Ranges.{in_lit}
 use Rattle.folds.specs.Tests.{all_to, all_of, between}
-use Rattle.folds.proofs.Tests.{and_right, all_at, each}
+use Rattle.folds.proofs.Tests.{all_at, each}
 use Rattle.rules.specs.Units.{lots}
 use Rattle.rules.specs.Ranges.{Amount}
 use Rattle.rules.specs.Money.{money_of}
@@ -55,7 +56,7 @@ module _ (b : Book) (ps : List ℕ) (r : Ranged b) (e : prices_ok b ps ≡ true)
   unfolding prices_ok
   tonight_ok =
       let k = b.head.contracts in
-      each (pair_tests (tonight_at ps j) (delivery_at ps j) (none_paired b j)) (all_at (pair_ok b ps) k (and_right (eqb (length ps) (k * pair_size)) (all_to (pair_ok b ps) k) e) j l) 0
+      each (pair_tests (tonight_at ps j) (delivery_at ps j) (none_paired b j)) (all_at (pair_ok b ps) k (and_parts (eqb (length ps) (k * pair_size)) (all_to (pair_ok b ps) k) e).1 j l) 0
 
   old : (i : ℕ) → get_or (contract_tests (b.contract j)) i true ≡ true
   old = each (contract_tests (b.contract j)) (contract_row b r.rows j l)

@@ -5,15 +5,17 @@ use mathlib.Core.List.{List, [], ◌∷◌}
 use Prim.{tt}
 use Prim.Native.Nat.{ℕ, ◌^◌, ◌≤◌, ◌<◌, zero-le}
 use native.Mathlib.Omega.{arith}
+use borrow.Author.Differences.{ints}
 use borrow.Author.Tests.{le-leb, eq-eqb}
 use lib.IntN.{pos}
 use lib.ListN.{length, take}
 use lib.Seq.{take_at}
+use Rattle.std.proofs.lemmas.Bool.{and_from}
 use Rattle.numbers.specs.Sum.{sum_to}
-use Rattle.numbers.proofs.Ranges.{in_eq, in_lit, zero_abs}
+use Rattle.numbers.proofs.Ranges.{in_eq, in_lit}
 use Rattle.numbers.proofs.Sums.{sum_ext, sum_most, in_total}
 use Rattle.folds.specs.Tests.{all_to, all_of, between}
-use Rattle.folds.proofs.Tests.{and_both, all_at, all_of_lem, each}
+use Rattle.folds.proofs.Tests.{all_at, all_of_lem, each}
 use Rattle.book.specs.declared.heads.Head.{Head}
 use Rattle.book.specs.declared.heads.Entry.{Entry}
 use Rattle.book.specs.declared.contracts.Contract.{Contract}
@@ -74,11 +76,8 @@ module _ (xs ps lent results : List ℕ) (e : settle_answer xs ps (length lent) 
   contents =
       let few = known.shaped.members in
       let some = known.shaped.contracts in
-      λ i. all_of (
-      (ap (λ (e : Entry). same_entry e contracts_entry) (next_contracts_entry b ps few some) ∙ entry_itself contracts_entry) i
-      ∷ (ap (λ (e : Entry). same_entry e (members_entry h)) (next_members_entry b ps few some) ∙ entry_itself (members_entry h)) i
-      ∷ (ap (λ (e : Entry). same_entry e (positions_entry h)) (next_positions_entry b ps few some) ∙ entry_itself (positions_entry h)) i
-      ∷ [])
+      rw (next_contracts_entry b ps few some, next_members_entry b ps few some, next_positions_entry b ps few some)
+      (λ i. all_of (entry_itself contracts_entry i ∷ entry_itself (members_entry h) i ∷ entry_itself (positions_entry h) i ∷ []))
 
   head_is : head_at ys ≡ h
   head_is = next_head b ps known.shaped.members known.shaped.contracts
@@ -161,8 +160,7 @@ module _ (xs ps lent results : List ℕ) (e : settle_answer xs ps (length lent) 
 
     cash_none : cash_to next j h.members ≡ pos 0
     cash_none =
-        zero_abs (cash_to next j h.members)
-        (omega (arith, (in_total {B = 0} (λ (m : ℕ). (next.position m j).cash.0) h.members (λ m l. in_eq (ap (λ (r : Position). r.cash.0) (position_is m j l q)) (in_lit tt))).within))
+        omega (arith, ints, (in_total {B = 0} (λ (m : ℕ). (next.position m j).cash.0) h.members (λ m l. in_eq (ap (λ (r : Position). r.cash.0) (position_is m j l q)) (in_lit tt))).within)
 
   next_valid : valid_rows next ≡ true
   next_valid = valid_of next rows_fine (record { opening = opening_even; held = held_even; paired = paired_even; cash = cash_none })
@@ -170,7 +168,7 @@ module _ (xs ps lent results : List ℕ) (e : settle_answer xs ps (length lent) 
   next_fresh : fresh_rows next ≡ true
   unfolding fresh_rows
   next_fresh =
-      and_both (all_to (λ (m : ℕ). fresh_member (next.member m)) h.members) (all_to (λ (m : ℕ). all_to (λ (j : ℕ). fresh_position (next.position m j)) h.contracts) h.members)
+      and_from (all_to (λ (m : ℕ). fresh_member (next.member m)) h.members) (all_to (λ (m : ℕ). all_to (λ (j : ℕ). fresh_position (next.position m j)) h.contracts) h.members)
       (all_of_lem (λ (m : ℕ). fresh_member (next.member m)) h.members (λ m l. ap fresh_member (member_is m l)))
       (all_of_lem (λ (m : ℕ). all_to (λ (j : ℕ). fresh_position (next.position m j)) h.contracts) h.members
       (λ m l. all_of_lem (λ (j : ℕ). fresh_position (next.position m j)) h.contracts (λ j q. ap fresh_position (position_is m j l q))))
@@ -178,8 +176,8 @@ module _ (xs ps lent results : List ℕ) (e : settle_answer xs ps (length lent) 
   pub next_opens : opening_book ys ≡ true
   unfolding opening_book valid_book
   next_opens =
-      and_both (head_ok ys && valid_rows (book_at ys)) (fresh_rows (book_at ys))
-      (and_both (head_ok ys) (valid_rows (book_at ys)) head_fine (ap (λ (x : Head). valid_rows (book_by x ys)) head_is ∙ next_valid))
+      and_from (head_ok ys && valid_rows (book_at ys)) (fresh_rows (book_at ys))
+      (and_from (head_ok ys) (valid_rows (book_at ys)) head_fine (ap (λ (x : Head). valid_rows (book_by x ys)) head_is ∙ next_valid))
       (ap (λ (x : Head). fresh_rows (book_by x ys)) head_is ∙ next_fresh)
 
 -- an evening that is answered 0 leaves an opening book in the room that was lent for it

@@ -64,7 +64,7 @@ module _ (xs ps next results : List ℕ) (e : settle_answer xs ps (length next) 
     profit_fits = in_sfits tt (tally_few xs ps (head_at xs) evening m l (head_at xs).contracts (le_refl (head_at xs).contracts)).profit
 
     room : 0 + m * result_size + widths (result_fields (night_of b ps m)) ≤ length before_row
-    room = omega (arith, length-sets results 0 (bytes_to (result_row b ps) m), passed.results)
+    room = simp length-sets (omega (arith, passed.results))
 
     -- the second of the sheet's nine fields
     pub profit_back : signed_at (results_after xs ps next results) (m * result_size + 8) ≡ (night_of b ps m).profit.0

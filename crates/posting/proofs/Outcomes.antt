@@ -1,9 +1,10 @@
 -- A refusal leaves the account as it stood, an accepted entry makes the account stated, and two accounts refuse by the lower number.
 use mathlib.Core.Path.{◌≡◌, refl}
-use mathlib.Core.Bool.{Bool, true, false}
-use borrow.Author.Tests.{not-false}
-use mathlib.Core.List.{[], ◌∷◌}
-use Rattle.folds.specs.First.{◌gives◌, first_of}
+use mathlib.Core.Bool.{Bool, true, false, cond}
+use Prim.Native.Nat.{ℕ, zero, suc, ◌≤◌}
+use native.Mathlib.Omega.{arith}
+use Rattle.std.proofs.lemmas.Bool.Decides.{nat_tests}
+use borrow.Author.Tests.{not-false, le-leb}
 use Rattle.folds.proofs.First.{none_holds}
 use Rattle.book.specs.declared.accounts.Account.{Account}
 use Rattle.posting.specs.Records.{Mark, Trade, Pairing}
@@ -16,53 +17,33 @@ pub has_enough : (party : Party) (mark : Mark) (t : Trade) (a : Account) → sid
 unfolding side_answer
 has_enough party mark t a e = not-false (enough mark t.lots.0 (side_on (way_of party mark) a.position)) (none_holds (side_rules party mark t a) refl e 2)
 
--- the first rule of two accounts is the lower of the accounts' own first rules: both have the same rules, in rising order
-four_lower : (x₁ y₁ x₂ y₂ x₃ y₃ x₄ y₄ : Bool)
-    → first_of ((x₁ gives 2) ∷ (y₁ gives 2) ∷ (x₂ gives 3) ∷ (y₂ gives 3) ∷ (x₃ gives 4) ∷ (y₃ gives 4) ∷ (x₄ gives 5) ∷ (y₄ gives 5) ∷ [])
-    ≡ lower (first_of ((x₁ gives 2) ∷ (x₂ gives 3) ∷ (x₃ gives 4) ∷ (x₄ gives 5) ∷ [])) (first_of ((y₁ gives 2) ∷ (y₂ gives 3) ∷ (y₃ gives 4) ∷ (y₄ gives 5) ∷ []))
-four_lower true true _ _ _ _ _ _ = refl
-four_lower true false _ true _ _ _ _ = refl
-four_lower true false _ false _ true _ _ = refl
-four_lower true false _ false _ false _ true = refl
-four_lower true false _ false _ false _ false = refl
-four_lower false true true _ _ _ _ _ = refl
-four_lower false false true true _ _ _ _ = refl
-four_lower false false true false _ true _ _ = refl
-four_lower false false true false _ false _ true = refl
-four_lower false false true false _ false _ false = refl
-four_lower false true false _ true _ _ _ = refl
-four_lower false false false true true _ _ _ = refl
-four_lower false false false false true true _ _ = refl
-four_lower false false false false true false _ true = refl
-four_lower false false false false true false _ false = refl
-four_lower false true false _ false _ true _ = refl
-four_lower false false false true false _ true _ = refl
-four_lower false false false false false true true _ = refl
-four_lower false false false false false false true true = refl
-four_lower false false false false false false true false = refl
-four_lower false true false _ false _ false _ = refl
-four_lower false false false true false _ false _ = refl
-four_lower false false false false false true false _ = refl
-four_lower false false false false false false false true = refl
-four_lower false false false false false false false false = refl
+-- t is the lower of r and s, neither of which is a number below n
+record Lowers (n t r s : ℕ) : Type 0 where
+  same : t ≡ lower r s
+  first : (r ≡ 0 → ⊥) → n ≤ r
+  second : (s ≡ 0 → ⊥) → n ≤ s
 
-two_lower : (x₁ y₁ x₂ y₂ : Bool) → first_of ((x₁ gives 2) ∷ (y₁ gives 2) ∷ (x₂ gives 7) ∷ (y₂ gives 7) ∷ []) ≡ lower (first_of ((x₁ gives 2) ∷ (x₂ gives 7) ∷ [])) (first_of ((y₁ gives 2) ∷ (y₂ gives 7) ∷ []))
-two_lower true true _ _ = refl
-two_lower true false _ true = refl
-two_lower true false _ false = refl
-two_lower false true true _ = refl
-two_lower false false true true = refl
-two_lower false false true false = refl
-two_lower false true false _ = refl
-two_lower false false false true = refl
-two_lower false false false false = refl
+-- one rule more of both accounts, with a lower number
+rising : (x y : Bool) (k : ℕ) {n t r s : ℕ} → suc k ≤ n → Lowers n t r s → Lowers (suc k) (cond x (suc k) (cond y (suc k) t)) (cond x (suc k) r) (cond y (suc k) s)
+rising true true k l p = record { same = grind (arith, nat_tests); first = λ _. omega arith; second = λ _. omega arith }
+rising true false k {s = zero} l p = record { same = refl; first = λ _. omega arith; second = λ ne. absurd (ne refl) }
+rising true false k {s = suc s} l p = let q = p.second (λ e. omega (arith, e)) in record { same = rw (le-leb (suc k) (suc s) (omega arith)); first = λ _. omega arith; second = λ _. omega arith }
+rising false true k {r = zero} l p = record { same = refl; first = λ ne. absurd (ne refl); second = λ _. omega arith }
+rising false true k {r = suc r} l p = let q = p.first (λ e. omega (arith, e)) in record { same = grind (arith, nat_tests); first = λ _. omega arith; second = λ _. omega arith }
+rising false false k l p = record { same = p.same; first = λ ne. omega (arith, p.first ne); second = λ ne. omega (arith, p.second ne) }
+
+-- no rule left
+none_left : (n : ℕ) → Lowers n 0 0 0
+none_left n = record { same = refl; first = λ ne. absurd (ne refl); second = λ ne. absurd (ne refl) }
 
 pub trade_lower : (t : Trade) (a b : Account) → trade_answer t a b ≡ lower (entry_answer (Buys t) a) (entry_answer (Sells t) b)
 unfolding trade_answer side_answer
 trade_lower t a b =
-    four_lower (full a) (full b) (barred t.buying a) (barred t.selling b) (fewer Buyer t.buying t a) (fewer Seller t.selling t b)
-    (beyond Buyer t.buying t a) (beyond Seller t.selling t b)
+    (rising (full a) (full b) 1 (omega arith)
+    (rising (barred t.buying a) (barred t.selling b) 2 (omega arith)
+    (rising (fewer Buyer t.buying t a) (fewer Seller t.selling t b) 3 (omega arith)
+    (rising (beyond Buyer t.buying t a) (beyond Seller t.selling t b) 4 (omega arith) (none_left 5))))).same
 
 pub pairing_lower : (p : Pairing) (a b : Account) → pairing_answer p a b ≡ lower (entry_answer (Receives p) a) (entry_answer (Delivers p) b)
 unfolding pairing_answer paired_answer
-pairing_lower p a b = two_lower (full a) (full b) (scarce Long p a) (scarce Short p b)
+pairing_lower p a b = (rising (full a) (full b) 1 (omega arith) (rising (scarce Long p a) (scarce Short p b) 6 (omega arith) (none_left 7))).same

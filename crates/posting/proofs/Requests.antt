@@ -1,7 +1,7 @@
 -- What the fields of a record that is not refused 1 have passed, by its request.
-use mathlib.Core.Path.{◌≡◌, refl, ap}
+use mathlib.Core.Path.{◌≡◌, ap}
 use mathlib.Core.Logic.{◌≢◌}
-use mathlib.Core.Bool.{Bool, true, false, cond}
+use mathlib.Core.Bool.{true}
 use mathlib.Core.List.Memᴰ
 use mathlib.Core.List.{List, [], ◌∷◌, Memᴰ}
 use Prim.Native.Nat.{ℕ, ◌^◌, ◌≤◌, ◌<◌}
@@ -18,6 +18,7 @@ use Rattle.book.specs.declared.accounts.Place.{Place}
 use Rattle.book.specs.Accounts.{Within}
 use Rattle.posting.specs.declared.records.Record.{Record}
 use Rattle.std.specs.Prelude.{Option, Some, None}
+use Rattle.std.proofs.lemmas.Bool.{cond_both}
 use Rattle.posting.specs.declared.records.Mark.{Mark}
 use Rattle.posting.specs.declared.records.Trade.{Trade}
 use Rattle.posting.specs.declared.records.Pairing.{Pairing}
@@ -46,15 +47,11 @@ pub data Formed (h : Head) : Option Request → Type 0 where
 
 -- ---- by the tests of each kind
 
-where_true : {A : Type 0} (c : Bool) (x y : A) (P : A → Type 0) → (c ≡ true → P x) → P y → P (cond c x y)
-where_true true x y P f g = f refl
-where_true false x y P f g = g
-
 module _ (h : Head) (q : Record) where
   trade_formed : Formed h (read_trade h q)
   unfolding read_trade
-  trade_formed = where_true (all_of (trade_tests h q)) (trade_by (read_mark q.marks.first) (read_mark q.marks.second) q) None (Formed h)
-      (λ e. marked e (read_mark q.marks.first) (read_mark q.marks.second)) nothing
+  trade_formed = cond_both (all_of (trade_tests h q)) (trade_by (read_mark q.marks.first) (read_mark q.marks.second) q) None (Formed h)
+      (λ e. marked e (read_mark q.marks.first) (read_mark q.marks.second)) (λ e. nothing)
     where
       marked : all_of (trade_tests h q) ≡ true → (m m' : Option Mark) → Formed h (trade_by m m' q)
       marked e (Some buying) (Some selling) =
@@ -74,7 +71,7 @@ module _ (h : Head) (q : Record) where
 
   pairing_formed : Formed h (read_pairing h q)
   unfolding read_pairing
-  pairing_formed = where_true (all_of (pairing_tests h q)) _ None (Formed h)
+  pairing_formed = cond_both (all_of (pairing_tests h q)) _ None (Formed h)
       (λ e. let t = each (pairing_tests h q) e in
       pairing (record {
         contract = ltb-true q.contract h.contracts (t 0);
@@ -83,7 +80,7 @@ module _ (h : Head) (q : Record) where
         differ = eqb-false q.first q.second (not-true (eqb q.first q.second) (t 3));
         some = between_low 1 10_000 q.b (t 6);
         few = between_high 1 10_000 q.b (t 6);
-      })) nothing
+      })) (λ e. nothing)
 
   payer : all_of (payment_tests h q) ≡ true → q.first < h.members
   payer e = ltb-true q.first h.members (each (payment_tests h q) e 1)
@@ -93,29 +90,29 @@ module _ (h : Head) (q : Record) where
 
   deposit_formed : Formed h (read_deposit h q)
   unfolding read_deposit
-  deposit_formed = where_true (all_of (payment_tests h q)) (Some (Depositing (payment q))) None (Formed h) (λ e. depositing (payer e) (sum_paid e)) nothing
+  deposit_formed = cond_both (all_of (payment_tests h q)) (Some (Depositing (payment q))) None (Formed h) (λ e. depositing (payer e) (sum_paid e)) (λ e. nothing)
 
   withdrawal_formed : Formed h (read_withdrawal h q)
   unfolding read_withdrawal
-  withdrawal_formed = where_true (all_of (payment_tests h q)) (Some (Withdrawing (payment q))) None (Formed h) (λ e. withdrawing (payer e) (sum_paid e)) nothing
+  withdrawal_formed = cond_both (all_of (payment_tests h q)) (Some (Withdrawing (payment q))) None (Formed h) (λ e. withdrawing (payer e) (sum_paid e)) (λ e. nothing)
 
   pledge_formed : Formed h (read_pledge h q)
   unfolding read_pledge
-  pledge_formed = where_true (all_of (pledge_tests h q)) _ None (Formed h)
-      (λ e. let t = each (pledge_tests h q) e in pledging (ltb-true q.first h.members (t 1)) (amount (leb-true q.a (10 ^ 15) (t 4))) (leb-true q.b 8_000 (t 5))) nothing
+  pledge_formed = cond_both (all_of (pledge_tests h q)) _ None (Formed h)
+      (λ e. let t = each (pledge_tests h q) e in pledging (ltb-true q.first h.members (t 1)) (amount (leb-true q.a (10 ^ 15) (t 4))) (leb-true q.b 8_000 (t 5))) (λ e. nothing)
 
   kind_formed : Formed h (read_kind h q)
   unfolding read_kind
   kind_formed =
-      where_true (eqb q.kind 1) _ _ (Formed h) (λ e. trade_formed)
-      (where_true (eqb q.kind 2) _ _ (Formed h) (λ e. pairing_formed)
-      (where_true (eqb q.kind 3) _ _ (Formed h) (λ e. deposit_formed)
-      (where_true (eqb q.kind 4) _ _ (Formed h) (λ e. withdrawal_formed)
-      (where_true (eqb q.kind 5) _ _ (Formed h) (λ e. pledge_formed) nothing))))
+      cond_both (eqb q.kind 1) _ _ (Formed h) (λ e. trade_formed)
+      (λ e. cond_both (eqb q.kind 2) _ _ (Formed h) (λ e. pairing_formed)
+      (λ e. cond_both (eqb q.kind 3) _ _ (Formed h) (λ e. deposit_formed)
+      (λ e. cond_both (eqb q.kind 4) _ _ (Formed h) (λ e. withdrawal_formed)
+      (λ e. cond_both (eqb q.kind 5) _ _ (Formed h) (λ e. pledge_formed) (λ e. nothing)))))
 
 pub formed : (h : Head) (r : List ℕ) → Formed h (request_of h r)
 unfolding request_of
-formed h r = where_true (eqb (length r) record_size) (read_kind h (record_at r)) None (Formed h) (λ e. kind_formed h (record_at r)) nothing
+formed h r = cond_both (eqb (length r) record_size) (read_kind h (record_at r)) None (Formed h) (λ e. kind_formed h (record_at r)) (λ e. nothing)
 
 -- ---- where its places lie
 

@@ -1,9 +1,8 @@
--- Either side of a position of a valid book is in range.
+-- Either side of a position is in range where both are.
 use Rattle.book.specs.declared.positions.Position.{Position}
 use Rattle.validity.specs.Totals.{SideIn}
 use Rattle.posting.specs.Fills.{Way, Long, Short, side_on}
-use Rattle.posting.specs.Ranges.{DealtIn}
 
-pub side_in : (way : Way) (p : Position) → DealtIn p → SideIn (side_on way p)
-side_in Long p h = h.long
-side_in Short p h = h.short
+pub side_in : (way : Way) (p : Position) → SideIn p.long → SideIn p.short → SideIn (side_on way p)
+side_in Long p l s = l
+side_in Short p l s = s

@@ -3,14 +3,13 @@ use mathlib.Core.Path.{◌≡◌, sym, ◌∙◌, ap}
 use Prim.Native.Nat.{ℕ, ◌+◌, ◌-◌, ◌≤◌}
 use native.Mathlib.Omega.{arith}
 use lib.ListN.{length}
+use borrow.Author.Differences.{ints}
 use lib.IntN.{ℤ, pos, neg_ℤ, ◌+ℤ◌, ◌-ℤ◌, ◌*ℤ◌}
-use Rattle.numbers.specs.Linear.{v, ◌⊕◌, ◌⊖◌, ⊝}
-use Rattle.numbers.proofs.Linears.{lin_eq, eq_lin}
 use Rattle.numbers.proofs.Ring.{*ℤ-distr-l, *ℤ-distr-r, *ℤ-sub-l, *ℤ-sub-r, *ℤ-negℤ}
 use Rattle.rules.specs.declared.units.Prices.{Prices}
 use Rattle.rules.specs.Units.{fen}
 use Rattle.rules.specs.Profit.{net_of, profit_of}
-use Rattle.profit.specs.Day.{SideDay, Day, Covered, sum_over, worth, held_on, held_of, opening_of, paired_of, closed_less_opened, cash_of}
+use Rattle.profit.specs.Day.{SideDay, Day, Covered, worth, held_on, held_of, opening_of, paired_of, closed_less_opened, cash_of}
 use Rattle.profit.specs.Article31.{Pairing, Pairings, Side, of_longs, of_shorts, gain, closed_old, closed_today, held_old, left_open, held_today, delivered, day_profit}
 use Rattle.profit.proofs.Sums.{turned, gain_turned, from_one}
 use Rattle.profit.proofs.Pairings.{some_pairing, any_pairing, closed_turned}
@@ -29,43 +28,28 @@ module _ (prices : Prices) (day : SideDay) (pairing : Pairing day.opened day.clo
       let n = length day.closed_old in
       let left = day.opening.0 - n in
       let new = length day.opened - length day.closed_today in
-      let e : n + left ≡ day.opening.0 = omega arith in
-      let old = sum_over worth day.closed_old in
-      let closed = sum_over worth day.closed_today in
-      let opened = sum_over worth day.opened in
-      let x = closed_old of_longs prices day in
-      let y = closed_today of_longs pairing in
-      let z = held_old of_longs prices day in
-      let w = held_today of_longs prices pairing in
-      lin_eq ((v x ⊕ v y) ⊕ (v z ⊕ v w)) (((v old ⊕ v closed) ⊖ v opened) ⊕ v (pos (left + new) *ℤ t) ⊖ v (pos day.opening.0 *ℤ last))
-      (omega (
+      let e : day.opening.0 ≡ n + left = omega arith in
+      omega (
         arith,
-        eq_lin (v x) (v old ⊖ v (pos n *ℤ last)) (from_one prices.last day.closed_old),
-        eq_lin (v y ⊕ v w) ((v closed ⊖ v opened) ⊕ v (pos new *ℤ t)) (any_pairing prices pairing),
-        eq_lin (v z) (v (pos left *ℤ t) ⊖ v (pos left *ℤ last)) (*ℤ-sub-l (pos left) t last),
-        eq_lin (v (pos (left + new) *ℤ t)) (v (pos left *ℤ t) ⊕ v (pos new *ℤ t)) (*ℤ-distr-r (pos left) (pos new) t),
-        eq_lin (v (pos day.opening.0 *ℤ last)) (v (pos n *ℤ last) ⊕ v (pos left *ℤ last)) (ap (λ (m : ℕ). pos m *ℤ last) (sym e) ∙ *ℤ-distr-r (pos n) (pos left) last),
-      ))
+        ints,
+        from_one prices.last day.closed_old,
+        any_pairing prices pairing,
+        *ℤ-sub-l (pos left) t last,
+        *ℤ-distr-r (pos left) (pos new) t,
+        ap (λ (m : ℕ). pos m *ℤ last) e ∙ *ℤ-distr-r (pos n) (pos left) last,
+      )
 
   shorts : side_profit of_shorts prices day pairing ≡ neg_ℤ (side_profit of_longs prices day pairing)
   shorts =
       let left = pos (day.opening.0 - length day.closed_old) in
-      let x = closed_old of_shorts prices day in
-      let x' = closed_old of_longs prices day in
-      let y = closed_today of_shorts pairing in
-      let y' = closed_today of_longs pairing in
-      let z = held_old of_shorts prices day in
-      let z' = held_old of_longs prices day in
-      let w = held_today of_shorts prices pairing in
-      let w' = held_today of_longs prices pairing in
-      lin_eq ((v x ⊕ v y) ⊕ (v z ⊕ v w)) (⊝ ((v x' ⊕ v y') ⊕ (v z' ⊕ v w')))
-      (omega (
+      omega (
         arith,
-        eq_lin (v x) (⊝ (v x')) (turned (gain of_shorts prices.last) (gain of_longs prices.last) (gain_turned prices.last) day.closed_old),
-        eq_lin (v y) (⊝ (v y')) (closed_turned pairing),
-        eq_lin (v z) (⊝ (v z')) (ap (λ (g : ℤ). left *ℤ g) (gain_turned prices.last prices.tonight) ∙ *ℤ-negℤ left (gain of_longs prices.last prices.tonight)),
-        eq_lin (v w) (⊝ (v w')) (turned (λ price. gain of_shorts price prices.tonight) (λ price. gain of_longs price prices.tonight) (λ price. gain_turned price prices.tonight) (left_open pairing)),
-      ))
+        ints,
+        turned (gain of_shorts prices.last) (gain of_longs prices.last) (gain_turned prices.last) day.closed_old,
+        closed_turned pairing,
+        ap (λ (g : ℤ). left *ℤ g) (gain_turned prices.last prices.tonight) ∙ *ℤ-negℤ left (gain of_longs prices.last prices.tonight),
+        turned (λ price. gain of_shorts price prices.tonight) (λ price. gain of_longs price prices.tonight) (λ price. gain_turned price prices.tonight) (left_open pairing),
+      )
 
 -- ---- the day
 
@@ -94,31 +78,17 @@ module _ (prices : Prices) (day : Day) (covered : Covered day) (pairings : Pairi
       let os = pos day.short.opening.0 in
       let pl = pos day.long.paired.0 in
       let ps = pos day.short.paired.0 in
-      let cl = closed_less_opened day.long in
-      let cs = closed_less_opened day.short in
-      let xl = closed_old of_longs prices day.long in
-      let xs = closed_old of_shorts prices day.short in
-      let yl = closed_today of_longs pairings.long in
-      let ys = closed_today of_shorts pairings.short in
-      let zl = held_old of_longs prices day.long in
-      let zs = held_old of_shorts prices day.short in
-      let wl = held_today of_longs prices pairings.long in
-      let ws = held_today of_shorts prices pairings.short in
-      let ds = delivered of_shorts prices day.short in
-      let as_longs = side_profit of_longs prices day.short pairings.short in
-      lin_eq
-      (((v xl ⊕ v xs) ⊕ (v yl ⊕ v ys)) ⊕ ((v zl ⊕ v zs) ⊕ (v wl ⊕ v ws)) ⊕ (v (pl *ℤ rise) ⊕ v ds))
-      ((v cl ⊖ v cs) ⊕ v ((hl -ℤ hs) *ℤ t) ⊖ v ((ol -ℤ os) *ℤ last) ⊕ v ((pl -ℤ ps) *ℤ rise))
-      (omega (
+      omega (
         arith,
-        eq_lin ((v xl ⊕ v yl) ⊕ (v zl ⊕ v wl)) (v cl ⊕ v (hl *ℤ t) ⊖ v (ol *ℤ last)) (longs prices day.long pairings.long covered.long),
-        eq_lin ((v xs ⊕ v ys) ⊕ (v zs ⊕ v ws)) (⊝ (v as_longs)) (shorts prices day.short pairings.short),
-        eq_lin (v as_longs) (v cs ⊕ v (hs *ℤ t) ⊖ v (os *ℤ last)) (longs prices day.short pairings.short covered.short),
-        eq_lin (v ds) (⊝ (v (ps *ℤ rise))) (ap (λ (g : ℤ). ps *ℤ g) (gain_turned prices.tonight prices.delivery) ∙ *ℤ-negℤ ps rise),
-        eq_lin (v ((hl -ℤ hs) *ℤ t)) (v (hl *ℤ t) ⊖ v (hs *ℤ t)) (*ℤ-sub-r hl hs t),
-        eq_lin (v ((ol -ℤ os) *ℤ last)) (v (ol *ℤ last) ⊖ v (os *ℤ last)) (*ℤ-sub-r ol os last),
-        eq_lin (v ((pl -ℤ ps) *ℤ rise)) (v (pl *ℤ rise) ⊖ v (ps *ℤ rise)) (*ℤ-sub-r pl ps rise),
-      ))
+        ints,
+        longs prices day.long pairings.long covered.long,
+        shorts prices day.short pairings.short,
+        longs prices day.short pairings.short covered.short,
+        ap (λ (g : ℤ). ps *ℤ g) (gain_turned prices.tonight prices.delivery) ∙ *ℤ-negℤ ps rise,
+        *ℤ-sub-r hl hs t,
+        *ℤ-sub-r ol os last,
+        *ℤ-sub-r pl ps rise,
+      )
 
 module _ (multiplier : ℕ) (prices : Prices) (day : Day) (covered : Covered day) where
   -- whichever lots the closings are paired with

@@ -1,8 +1,7 @@
 -- What an accepted record makes of its accounts, by the request that it was read as.
 use mathlib.Core.Path.{◌≡◌, sym, ◌∙◌, subst}
 use mathlib.Core.List.{List, [], ◌∷◌}
-use Prim.Native.Nat.{ℕ, zero, suc}
-use native.Mathlib.Omega.{arith}
+use Prim.Native.Nat.{ℕ}
 use Rattle.folds.specs.First.{on_zero}
 use Rattle.order.specs.Lens as lens
 use Rattle.book.specs.declared.accounts.Account.{Account}
@@ -16,13 +15,11 @@ use Rattle.promises.proofs.Answering.{valid_answer, accepted_valid}
 use Rattle.promises.proofs.OnlyNamed.{accepted_makes}
 
 -- the accounts made where the answer n is 0
-pub sole : {a a' : Account} (n : ℕ) → n ≡ 0 → a ∷ [] ≡ on_zero n (a' ∷ []) [] → a ≡ a'
-sole zero z e = cc
-sole (suc n) z e = absurd (omega arith)
+pub sole : {a a' : Account} {n : ℕ} → n ≡ 0 → a ∷ [] ≡ on_zero n (a' ∷ []) [] → a ≡ a'
+sole z e = let k = rw z at e in cc
 
-pub both : {a c a' c' : Account} (n : ℕ) → n ≡ 0 → a ∷ c ∷ [] ≡ on_zero n (a' ∷ c' ∷ []) [] → (a ≡ a') × (c ≡ c')
-both zero z e = ((cc), (cc))
-both (suc n) z e = absurd (omega arith)
+pub both : {a c a' c' : Account} {n : ℕ} → n ≡ 0 → a ∷ c ∷ [] ≡ on_zero n (a' ∷ c' ∷ []) [] → (a ≡ a') × (c ≡ c')
+both z e = let k = rw z at e in ((cc), (cc))
 
 module _ (book r : List ℕ) (a : answer book r ≡ 0) {q : Option Request} (e : request_of (head_at book) r ≡ q) where
   pub makes : lens.gets accounts (head_at book) (after book r) (places_for q) ≡ (posting_at (head_at book) book q).become

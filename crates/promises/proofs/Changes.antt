@@ -6,12 +6,11 @@ use native.Mathlib.Nat.{mul-le-mul_left}
 use native.Mathlib.Omega.{arith}
 use borrow.Author.Tests.{leb-true, leb-false, not-false}
 use lib.Dec.{leb}
+use borrow.Author.Differences.{ints}
 use lib.IntN.{ℤ, pos, ◌+ℤ◌}
+use Rattle.std.proofs.lemmas.Bool.{and_parts}
 use Rattle.numbers.specs.Range.{In}
-use Rattle.numbers.specs.Linear.{v, ◌⊕◌, ◌⊖◌}
 use Rattle.numbers.proofs.Ranges.{in_add, in_sub, in_pos, in_weaken}
-use Rattle.numbers.proofs.Linears.{lin_eq}
-use Rattle.folds.proofs.Tests.{and_left, and_right}
 use Rattle.folds.proofs.First.{none_holds}
 use Rattle.rules.specs.declared.units.Lots.{Lots}
 use Rattle.rules.specs.declared.units.Price.{Price}
@@ -27,7 +26,7 @@ use Rattle.book.specs.declared.positions.Position.{Position}
 use Rattle.book.specs.declared.accounts.Account.{Account}
 use Rattle.book.specs.Positions.{held_of, opening_of, held_sides, paired_of}
 use Rattle.validity.specs.Totals.{SideIn}
-use Rattle.validity.specs.InRange.{MemberIn, PositionIs}
+use Rattle.validity.specs.InRange.{PositionIs}
 use Rattle.posting.specs.declared.records.Mark.{Mark}
 use Rattle.posting.specs.declared.records.Mark.TheVariants.{Opens, ClosesOld, ClosesNew}
 use Rattle.posting.specs.declared.records.Trade.{Trade}
@@ -40,6 +39,7 @@ use Rattle.posting.specs.declared.fills.Party.{Party}
 use Rattle.posting.specs.declared.fills.Party.TheVariants.{Buyer, Seller}
 use Rattle.posting.specs.Fills.{way_of, side_on, with_side, marked, paired_up, paid, dealt, enough, roomy, free}
 use Rattle.posting.specs.Postings.{counted, moved, traded, paired_on, deposited, withdrawn, pledged, trade_rules, pairing_rules, deposit_rules, withdrawal_rules, pledge_rules, trade_answer, pairing_answer, deposit_answer, withdrawal_answer, pledge_answer}
+use Rattle.posting.proofs.Sides.{side_in}
 use Rattle.promises.proofs.Sound.{Sound, Fine}
 
 -- ---- one side of a position
@@ -56,14 +56,14 @@ pub record Spares (way : Way) (p : Pairing) (a : Account) : Type 0 where
   pub free : free p.lots.0 (side_on way a.position) ≡ true
 
 -- so many lots under the mark
-record Closes (n most : ℕ) (s : Side) : Type 0 where
-  under : n ≤ most
-  left : s.paired.0 + n ≤ held_of s
+pub record Closes (n most : ℕ) (s : Side) : Type 0 where
+  pub under : n ≤ most
+  pub left : s.paired.0 + n ≤ held_of s
 
-closes : (n most : ℕ) (s : Side) → leb n most && leb (s.paired.0 + n) (held_of s) ≡ true → Closes n most s
+pub closes : (n most : ℕ) (s : Side) → leb n most && leb (s.paired.0 + n) (held_of s) ≡ true → Closes n most s
 closes n most s e = record {
-  under = leb-true n most (and_left (leb n most) (leb (s.paired.0 + n) (held_of s)) e);
-  left = leb-true (s.paired.0 + n) (held_of s) (and_right (leb n most) (leb (s.paired.0 + n) (held_of s)) e);
+  under = leb-true n most (and_parts (leb n most) (leb (s.paired.0 + n) (held_of s)) e).0;
+  left = leb-true (s.paired.0 + n) (held_of s) (and_parts (leb n most) (leb (s.paired.0 + n) (held_of s)) e).1;
 }
 
 marked_in : (mark : Mark) (n : ℕ) (s : Side) → SideIn s → enough mark n s ≡ true → roomy mark n s ≡ true → SideIn (marked mark n s)
@@ -78,10 +78,6 @@ marked_in ClosesNew n s i e f =
 paired_in : (n : ℕ) (s : Side) → SideIn s → free n s ≡ true → SideIn (paired_up n s)
 paired_in n s i e = record { closed = i.closed; opening = i.opening; held = i.held; paired = leb-true (s.paired.0 + n) (held_of s) e }
 
-side_on_lem : (way : Way) (p : Position) → PositionIs p → SideIn (side_on way p)
-side_on_lem Long p i = i.long
-side_on_lem Short p i = i.short
-
 with_side_lem : (way : Way) (s : Side) (p : Position) → PositionIs p → SideIn s → PositionIs (with_side way s p)
 with_side_lem Long s p i j = record { long = j; short = i.short; cash = i.cash; zero = i.zero }
 with_side_lem Short s p i j = record { long = i.long; short = j; cash = i.cash; zero = i.zero }
@@ -92,19 +88,17 @@ paid_in Seller price n cash t l i = let w = mul-le-mul_left n.0 l in in_weaken (
 
 -- ---- what one account becomes is fine
 
-counted_in : (s : Securities) (d : Day) (r : Member) → MemberIn r → r.accepted < 20_000
-    → Amount (10 ^ 15) s.market → s.discount ≤ 8_000 → Amount (10 ^ 12 * (r.accepted + 1)) d.deposits → Amount (10 ^ 12 * (r.accepted + 1)) d.withdrawals
-    → MemberIn (counted s d r)
-counted_in s d r m l market discount deposits withdrawals = record {
-  accepted = omega arith;
-  reserve = m.reserve;
-  margin = m.margin;
-  usable = m.usable;
-  market = market;
-  discount = discount;
-  deposits = deposits;
-  withdrawals = withdrawals;
-}
+counted_fine : (s : Securities) (d : Day) (p : Position) (a : Account) → Sound a → a.member.accepted < 20_000
+    → Amount (10 ^ 15) s.market → s.discount ≤ 8_000 → Amount (10 ^ 12 * (a.member.accepted + 1)) d.deposits → Amount (10 ^ 12 * (a.member.accepted + 1)) d.withdrawals
+    → PositionIs p → p.traded.0 ≤ a.position.traded.0 + 10_000 → Fine a (record { member = counted s d a.member; position = p })
+counted_fine s d p a sound l market discount deposits withdrawals position few =
+    let m = sound.member in
+    record {
+      kind = refl;
+      member = record { accepted = omega arith; reserve = m.reserve; margin = m.margin; usable = m.usable; market = market; discount = discount; deposits = deposits; withdrawals = withdrawals };
+      position = position;
+      traded = omega arith;
+    }
 
 -- the day's sums may be larger by one more record
 later : (r : Member) (x : Fen) → Amount (10 ^ 12 * r.accepted) x → Amount (10 ^ 12 * (r.accepted + 1)) x
@@ -116,19 +110,13 @@ added r x y a b = amount_more (record { 0 = x.0 +ℤ y.0 }) (omega arith) (amoun
 moved_fine : (p : Position) (a : Account) → Sound a → a.member.accepted < 20_000 → PositionIs p → p.traded.0 ≤ a.position.traded.0 + 10_000 → Fine a (moved p a)
 moved_fine p a s l i few =
     let m = s.member in
-    record {
-      kind = refl;
-      member = counted_in a.member.securities a.member.day a.member m l m.market m.discount
-          (later a.member a.member.day.deposits m.deposits) (later a.member a.member.day.withdrawals m.withdrawals);
-      position = i;
-      traded = omega arith;
-    }
+    counted_fine a.member.securities a.member.day p a s l m.market m.discount (later a.member a.member.day.deposits m.deposits) (later a.member a.member.day.withdrawals m.withdrawals) i few
 
 pub traded_fine : (party : Party) (mark : Mark) (t : Trade) (a : Account) → Sound a → t.price.0 ≤ 10_000_000 → t.lots.0 ≤ 10_000 → Passes party mark t a → Fine a (traded party mark t a)
 traded_fine party mark t a s price few ok =
     let p : Position = a.position in
     let way : Way = way_of party mark in
-    let q = with_side_lem way (marked mark t.lots.0 (side_on way p)) p s.position (marked_in mark t.lots.0 (side_on way p) (side_on_lem way p s.position) ok.enough ok.roomy) in
+    let q = with_side_lem way (marked mark t.lots.0 (side_on way p)) p s.position (marked_in mark t.lots.0 (side_on way p) (side_in way p s.position.long s.position.short) ok.enough ok.roomy) in
     moved_fine (dealt party mark t.price t.lots p) a s ok.count
     (record { long = q.long; short = q.short; cash = paid_in party t.price t.lots p.cash p.traded.0 price s.position.cash; zero = s.position.zero })
     (omega arith)
@@ -136,7 +124,7 @@ traded_fine party mark t a s price few ok =
 pub paired_fine : (way : Way) (p : Pairing) (a : Account) → Sound a → Spares way p a → Fine a (paired_on way p a)
 paired_fine way p a s ok =
     moved_fine (with_side way (paired_up p.lots.0 (side_on way a.position)) a.position) a s ok.count
-    (with_side_lem way (paired_up p.lots.0 (side_on way a.position)) a.position s.position (paired_in p.lots.0 (side_on way a.position) (side_on_lem way a.position s.position) ok.free))
+    (with_side_lem way (paired_up p.lots.0 (side_on way a.position)) a.position s.position (paired_in p.lots.0 (side_on way a.position) (side_in way a.position s.position.long s.position.short) ok.free))
     (same_traded way (paired_up p.lots.0 (side_on way a.position)) a.position)
   where
     same_traded : (w : Way) (x : Side) (y : Position) → (with_side w x y).traded.0 ≤ y.traded.0 + 10_000
@@ -147,36 +135,18 @@ pub deposited_fine : (p : Payment) (a : Account) → Sound a → Amount (10 ^ 12
 deposited_fine p a s sum l =
     let m = s.member in
     let r : Member = a.member in
-    record {
-      kind = refl;
-      member = counted_in r.securities (record { deposits = record { 0 = r.day.deposits.0 +ℤ p.amount.0 }; withdrawals = r.day.withdrawals }) r m l m.market m.discount
-          (added r r.day.deposits p.amount m.deposits sum) (later r r.day.withdrawals m.withdrawals);
-      position = s.position;
-      traded = omega arith;
-    }
+    counted_fine _ _ _ a s l m.market m.discount (added r r.day.deposits p.amount m.deposits sum) (later r r.day.withdrawals m.withdrawals) s.position (omega arith)
 
 pub withdrawn_fine : (p : Payment) (a : Account) → Sound a → Amount (10 ^ 12) p.amount → a.member.accepted < 20_000 → Fine a (withdrawn p a)
 withdrawn_fine p a s sum l =
     let m = s.member in
     let r : Member = a.member in
-    record {
-      kind = refl;
-      member = counted_in r.securities (record { deposits = r.day.deposits; withdrawals = record { 0 = r.day.withdrawals.0 +ℤ p.amount.0 } }) r m l m.market m.discount
-          (later r r.day.deposits m.deposits) (added r r.day.withdrawals p.amount m.withdrawals sum);
-      position = s.position;
-      traded = omega arith;
-    }
+    counted_fine _ _ _ a s l m.market m.discount (later r r.day.deposits m.deposits) (added r r.day.withdrawals p.amount m.withdrawals sum) s.position (omega arith)
 
 pub pledged_fine : (p : Pledge) (a : Account) → Sound a → Amount (10 ^ 15) p.market → p.discount ≤ 8_000 → a.member.accepted < 20_000 → Fine a (pledged p a)
 pledged_fine p a s market discount l =
-    let m = s.member in
     let r : Member = a.member in
-    record {
-      kind = refl;
-      member = counted_in (record { market = p.market; discount = p.discount }) r.day r m l market discount (later r r.day.deposits m.deposits) (later r r.day.withdrawals m.withdrawals);
-      position = s.position;
-      traded = omega arith;
-    }
+    counted_fine _ _ _ a s l market discount (later r r.day.deposits s.member.deposits) (later r r.day.withdrawals s.member.withdrawals) s.position (omega arith)
 
 -- ---- what two accounts of one contract become cancels
 
@@ -232,7 +202,7 @@ trade_cancels t a c s s' ok ok' =
       opening = omega (arith, longs bought.0, shorts bought.0, longs sold.0, shorts sold.0);
       held = omega (arith, bought_held t.buying t.price t.lots p s.position ok.enough, sold_held t.selling t.price t.lots q s'.position ok'.enough);
       paired = omega (arith, longs bought.1, shorts bought.1, longs sold.1, shorts sold.1);
-      cash = lin_eq (v p.cash.0 ⊖ v z ⊕ (v q.cash.0 ⊕ v z)) (v p.cash.0 ⊕ v q.cash.0) (omega arith);
+      cash = omega (arith, ints);
     }
   where
     longs : {x y : Sides} → x ≡ y → x.long.0 ≡ y.long.0

@@ -7,11 +7,10 @@ use Rattle.book.specs.declared.accounts.Account.{Account}
 use Rattle.book.specs.Layout.{member_off}
 use Rattle.book.specs.Heads.{head_at}
 use Rattle.book.specs.Members.{member_at}
-use Rattle.book.specs.Accounts.{place, account_at}
+use Rattle.book.specs.Accounts.{account_at}
 use Rattle.std.specs.Prelude.{Option}
 use Rattle.posting.specs.declared.records.Request.{Request}
 use Rattle.posting.specs.Records.{request_of, names_of}
-use Rattle.posting.specs.Postings.{trade_answer, pairing_answer, deposit_answer, withdrawal_answer, pledge_answer}
 use Rattle.posting.specs.Answers.{answer, after}
 use Rattle.promises.specs.Naming.{named}
 use Rattle.promises.specs.Dealings.{fills_of, traded_of, row_at}
@@ -31,24 +30,17 @@ module _ (book r : List ℕ) (a : answer book r ≡ 0) where
   by_request : {q : Option Request} → Formed (head_at book) q → request_of (head_at book) r ≡ q → (m : ℕ) → Memᴰ m (names_of q) → Counts m
   unfolding account_at
   by_request (trading {t} s price) e m i =
-      let x : Account = account_at (head_at book) book (place t.buyer t.contract) in
-      let y : Account = account_at (head_at book) book (place t.seller t.contract) in
-      let made = both (trade_answer t x y) (accepted book r a e) (makes book r a e) in
+      let made = both (accepted book r a e) (makes book r a e) in
       first_or_second t.buyer t.seller m (ap (λ (z : Account). z.member.accepted) made.0) (ap (λ (z : Account). z.member.accepted) made.1) i
   by_request (pairing {p} s) e m i =
-      let x : Account = account_at (head_at book) book (place p.buyer p.contract) in
-      let y : Account = account_at (head_at book) book (place p.seller p.contract) in
-      let made = both (pairing_answer p x y) (accepted book r a e) (makes book r a e) in
+      let made = both (accepted book r a e) (makes book r a e) in
       first_or_second p.buyer p.seller m (ap (λ (z : Account). z.member.accepted) made.0) (ap (λ (z : Account). z.member.accepted) made.1) i
   by_request (depositing {p} l sum) e m i =
-      let x : Account = account_at (head_at book) book (place p.member 0) in
-      subst Counts (sym (Memᴰ.eq_of_singleton i)) (ap (λ (z : Account). z.member.accepted) (sole (deposit_answer p x) (accepted book r a e) (makes book r a e)))
+      subst Counts (sym (Memᴰ.eq_of_singleton i)) (ap (λ (z : Account). z.member.accepted) (sole (accepted book r a e) (makes book r a e)))
   by_request (withdrawing {p} l sum) e m i =
-      let x : Account = account_at (head_at book) book (place p.member 0) in
-      subst Counts (sym (Memᴰ.eq_of_singleton i)) (ap (λ (z : Account). z.member.accepted) (sole (withdrawal_answer p x) (accepted book r a e) (makes book r a e)))
+      subst Counts (sym (Memᴰ.eq_of_singleton i)) (ap (λ (z : Account). z.member.accepted) (sole (accepted book r a e) (makes book r a e)))
   by_request (pledging {p} l market discount) e m i =
-      let x : Account = account_at (head_at book) book (place p.member 0) in
-      subst Counts (sym (Memᴰ.eq_of_singleton i)) (ap (λ (z : Account). z.member.accepted) (sole (pledge_answer p x) (accepted book r a e) (makes book r a e)))
+      subst Counts (sym (Memᴰ.eq_of_singleton i)) (ap (λ (z : Account). z.member.accepted) (sole (accepted book r a e) (makes book r a e)))
   by_request nothing e m i = absurd (Memᴰ.not-nil i)
 
   pub accepted_counts : (m : ℕ) → Memᴰ m (named book r) → (member_at (after book r) (member_off (head_at book) m)).accepted ≡ (member_at book (member_off (head_at book) m)).accepted + 1

@@ -1,7 +1,7 @@
 -- A run of records moves a member's row in a contract by the fills of the records accepted, each allowed by the row that it met.
 use mathlib.Core.Path.{◌≡◌, refl, sym, ap, ◌∙◌, subst}
 use mathlib.Core.Logic.{◌≢◌}
-use mathlib.Core.Bool.{Bool, true, false, cond}
+use mathlib.Core.Bool.{true, cond}
 use mathlib.Core.List.Memᴰ
 use mathlib.Core.List.{List, [], ◌∷◌, Memᴰ}
 use Prim.Native.Nat.{ℕ, zero, suc, ◌<◌}
@@ -9,20 +9,20 @@ use native.Mathlib.Decide.{ℕ_discrete}
 use native.Mathlib.Omega.{arith}
 use borrow.Author.Tests.{eqb-true, eqb-false}
 use lib.Dec.{eqb}
+use Rattle.std.proofs.lemmas.Bool.{cond_both}
 use Rattle.folds.specs.First.{on_zero}
 use Rattle.order.specs.Order.{final, answers}
 use Rattle.book.specs.declared.heads.Head.{Head}
 use Rattle.book.specs.declared.positions.Position.{Position}
 use Rattle.book.specs.declared.accounts.Account.{Account}
 use Rattle.book.specs.Heads.{head_at}
-use Rattle.book.specs.Accounts.{place, account_at}
+use Rattle.book.specs.Accounts.{account_at}
 use Rattle.validity.specs.Valid.{valid_book}
 use Rattle.std.specs.Prelude.{Option}
 use Rattle.posting.specs.declared.records.Request.{Request}
 use Rattle.posting.specs.declared.fills.Way.TheVariants.{Long, Short}
 use Rattle.posting.specs.declared.fills.Party.TheVariants.{Buyer, Seller}
 use Rattle.posting.specs.Records.{request_of, names_of, contract_of}
-use Rattle.posting.specs.Postings.{trade_answer, pairing_answer, deposit_answer, withdrawal_answer, pledge_answer}
 use Rattle.posting.specs.Answers.{answer, after}
 use Rattle.promises.specs.Dealings.{Fill, dealing, delivering, share, fills_of, accepted_of, fills_in, dealings, row_at}
 use Rattle.posting.proofs.Requests.{Formed, trading, pairing, depositing, withdrawing, pledging, nothing, formed}
@@ -40,16 +40,15 @@ shared : (row row' : ℕ → ℕ → Position) (c x y : ℕ) (f g : Fill) (m j :
     → Moves (row x c) (f ∷ []) (row' x c) → Moves (row y c) (g ∷ []) (row' y c)
     → (j ≢ c → row' m j ≡ row m j) → (m ≢ x → m ≢ y → row' m j ≡ row m j)
     → Moves (row m j) (share c x y f g m j) (row' m j)
-shared row row' c x y f g m j first second off out = by (eqb c j) (eqb x m) (eqb y m) refl refl refl
+shared row row' c x y f g m j first second off out =
+    let To : List Fill → Type 0 = λ fs. Moves (row m j) fs (row' m j) in
+    cond_both (eqb c j) (cond (eqb x m) (f ∷ []) (cond (eqb y m) (g ∷ []) [])) [] To
+    (λ p. cond_both (eqb x m) (f ∷ []) (cond (eqb y m) (g ∷ []) []) To (λ q. at x (eqb-true c j p) (eqb-true x m q) first)
+    (λ q. cond_both (eqb y m) (g ∷ []) [] To (λ r. at y (eqb-true c j p) (eqb-true y m r) second) (λ r. still (out (λ e. eqb-false x m q (sym e)) (λ e. eqb-false y m r (sym e))))))
+    (λ p. still (off (λ e. eqb-false c j p (sym e))))
   where
     at : (z : ℕ) {h : Fill} → c ≡ j → z ≡ m → Moves (row z c) (h ∷ []) (row' z c) → Moves (row m j) (h ∷ []) (row' m j)
     at z {h} e e' w = subst (λ (i : ℕ). Moves (row m i) (h ∷ []) (row' m i)) e (subst (λ (i : ℕ). Moves (row i c) (h ∷ []) (row' i c)) e' w)
-
-    by : (s t u : Bool) → eqb c j ≡ s → eqb x m ≡ t → eqb y m ≡ u → Moves (row m j) (cond s (cond t (f ∷ []) (cond u (g ∷ []) [])) []) (row' m j)
-    by true true u p q r = at x (eqb-true c j p) (eqb-true x m q) first
-    by true false true p q r = at y (eqb-true c j p) (eqb-true y m r) second
-    by true false false p q r = still (out (λ e. eqb-false x m q (sym e)) (λ e. eqb-false y m r (sym e)))
-    by false t u p q r = still (off (λ e. eqb-false c j p (sym e)))
 
 neither : {m x y : ℕ} → m ≢ x → m ≢ y → ¬ Memᴰ m (x ∷ y ∷ [])
 neither n n' (Memᴰ.head e) = n e
@@ -81,32 +80,25 @@ module _ (book r : List ℕ) (a : answer book r ≡ 0) (m j : ℕ) (lj : j < (he
   by_request : {q : Option Request} → Formed h q → request_of h r ≡ q → Moves (row_at h book m j) (fills_of q m j) (row_at h (after book r) m j)
   unfolding account_at
   by_request (trading {t} s price) e =
-      let x : Account = account_at h book (place t.buyer t.contract) in
-      let y : Account = account_at h book (place t.seller t.contract) in
-      let d = trade_done t x y (accepted book r a e) in
-      let made = both (trade_answer t x y) (accepted book r a e) (makes book r a e) in
+      let d = trade_done t _ _ (accepted book r a e) in
+      let made = both (accepted book r a e) (makes book r a e) in
       shared (row_at h book) (row_at h (after book r)) t.contract t.buyer t.seller
       (dealing Buyer t.buying t.price t.lots) (dealing Seller t.selling t.price t.lots) m j
       (next d.buyer.enough (still (ap (λ (z : Account). z.position) made.0)))
       (next d.seller.enough (still (ap (λ (z : Account). z.position) made.1)))
       (off e) (λ n n'. out e (neither n n'))
   by_request (pairing {p} s) e =
-      let x : Account = account_at h book (place p.buyer p.contract) in
-      let y : Account = account_at h book (place p.seller p.contract) in
-      let made = both (pairing_answer p x y) (accepted book r a e) (makes book r a e) in
+      let made = both (accepted book r a e) (makes book r a e) in
       shared (row_at h book) (row_at h (after book r)) p.contract p.buyer p.seller (delivering Long p.lots) (delivering Short p.lots) m j
       (next refl (still (ap (λ (z : Account). z.position) made.0)))
       (next refl (still (ap (λ (z : Account). z.position) made.1)))
       (off e) (λ n n'. out e (neither n n'))
   by_request (depositing {p} l sum) e =
-      let x : Account = account_at h book (place p.member 0) in
-      still (lone e p.member refl refl (ap (λ (z : Account). z.position) (sole (deposit_answer p x) (accepted book r a e) (makes book r a e))))
+      still (lone e p.member refl refl (ap (λ (z : Account). z.position) (sole (accepted book r a e) (makes book r a e))))
   by_request (withdrawing {p} l sum) e =
-      let x : Account = account_at h book (place p.member 0) in
-      still (lone e p.member refl refl (ap (λ (z : Account). z.position) (sole (withdrawal_answer p x) (accepted book r a e) (makes book r a e))))
+      still (lone e p.member refl refl (ap (λ (z : Account). z.position) (sole (accepted book r a e) (makes book r a e))))
   by_request (pledging {p} l market discount) e =
-      let x : Account = account_at h book (place p.member 0) in
-      still (lone e p.member refl refl (ap (λ (z : Account). z.position) (sole (pledge_answer p x) (accepted book r a e) (makes book r a e))))
+      still (lone e p.member refl refl (ap (λ (z : Account). z.position) (sole (accepted book r a e) (makes book r a e))))
   by_request nothing e = absurd (omega (arith, accepted book r a e))
 
 pub record_moves : (book r : List ℕ) → answer book r ≡ 0 → (m j : ℕ) → j < (head_at book).contracts

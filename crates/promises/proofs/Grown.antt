@@ -2,18 +2,17 @@
 use mathlib.Core.Path.{◌≡◌, refl}
 use mathlib.Core.Bool.{Bool, true}
 use mathlib.Core.List.{List, [], ◌∷◌, ◌++◌}
-use Prim.Native.Nat.{ℕ, ◌+◌, ◌*◌, ◌≤◌}
+use Prim.Native.Nat.{ℕ, ◌+◌, ◌≤◌}
 use native.Mathlib.Omega.{arith}
 use borrow.Author.Tests.{leb-true}
 use lib.Dec.{leb}
+use borrow.Author.Differences.{ints}
 use lib.IntN.{◌+ℤ◌}
-use lib.ListN.{length, replicate}
+use lib.ListN.{length}
+use Rattle.std.proofs.lemmas.Bool.{and_parts}
 use Rattle.numbers.specs.Sum.{sum_of}
-use Rattle.numbers.specs.Linear.{Linear, v, k, ◌⊕◌, ◌⊖◌}
-use Rattle.numbers.proofs.Linears.{lin_eq, eq_lin}
-use Rattle.folds.proofs.Tests.{and_left}
 use Rattle.rules.specs.declared.units.Price.{Price}
-use Rattle.profit.specs.Day.{SideDay, sum_over, worth, cash_of}
+use Rattle.profit.specs.Day.{SideDay, cash_of}
 use Rattle.book.specs.declared.positions.Side.{Side}
 use Rattle.book.specs.declared.positions.Position.{Position}
 use Rattle.book.specs.Positions.{held_of}
@@ -57,22 +56,16 @@ pub record Grown (a : Position) (fs : List Fill) (b : Position) : Type 0 where
   pub cash : b.cash.0 ≡ a.cash.0 +ℤ (cash_of (day_from a fs)).0
   pub traded : b.traded.0 ≡ a.traded.0 + traded_of fs
 
--- the cash of the fills: closings less openings, of longs and of shorts
-abbrev net : List Fill → Linear
-net fs =
-    (v (sum_over worth (prices_of Seller ClosesOld fs)) ⊕ v (sum_over worth (prices_of Seller ClosesNew fs)) ⊖ v (sum_over worth (prices_of Buyer Opens fs)))
-    ⊖ (v (sum_over worth (prices_of Buyer ClosesOld fs)) ⊕ v (sum_over worth (prices_of Buyer ClosesNew fs)) ⊖ v (sum_over worth (prices_of Seller Opens fs)))
-
 -- no more of today's lots are closed than there are
 under : (n : ℕ) (s : Side) → enough ClosesNew n s ≡ true → n ≤ s.new.0
-under n s e = leb-true n s.new.0 (and_left (leb n s.new.0) (leb (s.paired.0 + n) (held_of s)) e)
+under n s e = leb-true n s.new.0 (and_parts (leb n s.new.0) (leb (s.paired.0 + n) (held_of s)) e).0
 
 pub grown : {a b : Position} {fs : List Fill} → Moves a fs b → Grown a fs b
 unfolding sum_of
 grown {a} none = record {
   long = record { opening = refl; closed = omega arith; new = omega arith; paired = omega arith };
   short = record { opening = refl; closed = omega arith; new = omega arith; paired = omega arith };
-  cash = lin_eq (v a.cash.0) (v a.cash.0 ⊕ net []) (omega arith);
+  cash = omega (arith, ints);
   traded = omega arith;
 }
 grown {a} {b} (next {f = dealing Buyer Opens price n} {fs = fs} e moves) =
@@ -81,11 +74,7 @@ grown {a} {b} (next {f = dealing Buyer Opens price n} {fs = fs} e moves) =
     record {
       long = record { opening = g.long.opening; closed = g.long.closed; new = omega (arith, many n.0 price before, g.long.new); paired = omega (arith, g.long.paired) };
       short = record { opening = g.short.opening; closed = g.short.closed; new = g.short.new; paired = omega (arith, g.short.paired) };
-      cash = lin_eq (v b.cash.0) (v a.cash.0 ⊕ net (dealing Buyer Opens price n ∷ fs)) (omega (
-        arith,
-        eq_lin (v b.cash.0) (v a.cash.0 ⊖ k (n.0 * price.0) ⊕ net fs) g.cash,
-        eq_lin (v (sum_over worth (replicate n.0 price ++ before))) (k (n.0 * price.0) ⊕ v (sum_over worth before)) (sum_many n.0 price before),
-      ));
+      cash = omega (arith, ints, g.cash, sum_many n.0 price before);
       traded = omega (arith, g.traded);
     }
 grown {a} {b} (next {f = dealing Buyer ClosesOld price n} {fs = fs} e moves) =
@@ -94,11 +83,7 @@ grown {a} {b} (next {f = dealing Buyer ClosesOld price n} {fs = fs} e moves) =
     record {
       long = record { opening = g.long.opening; closed = g.long.closed; new = g.long.new; paired = omega (arith, g.long.paired) };
       short = record { opening = g.short.opening; closed = omega (arith, many n.0 price before, g.short.closed); new = g.short.new; paired = omega (arith, g.short.paired) };
-      cash = lin_eq (v b.cash.0) (v a.cash.0 ⊕ net (dealing Buyer ClosesOld price n ∷ fs)) (omega (
-        arith,
-        eq_lin (v b.cash.0) (v a.cash.0 ⊖ k (n.0 * price.0) ⊕ net fs) g.cash,
-        eq_lin (v (sum_over worth (replicate n.0 price ++ before))) (k (n.0 * price.0) ⊕ v (sum_over worth before)) (sum_many n.0 price before),
-      ));
+      cash = omega (arith, ints, g.cash, sum_many n.0 price before);
       traded = omega (arith, g.traded);
     }
 grown {a} {b} (next {f = dealing Buyer ClosesNew price n} {fs = fs} e moves) =
@@ -107,11 +92,7 @@ grown {a} {b} (next {f = dealing Buyer ClosesNew price n} {fs = fs} e moves) =
     record {
       long = record { opening = g.long.opening; closed = g.long.closed; new = g.long.new; paired = omega (arith, g.long.paired) };
       short = record { opening = g.short.opening; closed = g.short.closed; new = omega (arith, many n.0 price before, g.short.new, under n.0 a.short e); paired = omega (arith, g.short.paired) };
-      cash = lin_eq (v b.cash.0) (v a.cash.0 ⊕ net (dealing Buyer ClosesNew price n ∷ fs)) (omega (
-        arith,
-        eq_lin (v b.cash.0) (v a.cash.0 ⊖ k (n.0 * price.0) ⊕ net fs) g.cash,
-        eq_lin (v (sum_over worth (replicate n.0 price ++ before))) (k (n.0 * price.0) ⊕ v (sum_over worth before)) (sum_many n.0 price before),
-      ));
+      cash = omega (arith, ints, g.cash, sum_many n.0 price before);
       traded = omega (arith, g.traded);
     }
 grown {a} {b} (next {f = dealing Seller Opens price n} {fs = fs} e moves) =
@@ -120,11 +101,7 @@ grown {a} {b} (next {f = dealing Seller Opens price n} {fs = fs} e moves) =
     record {
       long = record { opening = g.long.opening; closed = g.long.closed; new = g.long.new; paired = omega (arith, g.long.paired) };
       short = record { opening = g.short.opening; closed = g.short.closed; new = omega (arith, many n.0 price before, g.short.new); paired = omega (arith, g.short.paired) };
-      cash = lin_eq (v b.cash.0) (v a.cash.0 ⊕ net (dealing Seller Opens price n ∷ fs)) (omega (
-        arith,
-        eq_lin (v b.cash.0) (v a.cash.0 ⊕ k (n.0 * price.0) ⊕ net fs) g.cash,
-        eq_lin (v (sum_over worth (replicate n.0 price ++ before))) (k (n.0 * price.0) ⊕ v (sum_over worth before)) (sum_many n.0 price before),
-      ));
+      cash = omega (arith, ints, g.cash, sum_many n.0 price before);
       traded = omega (arith, g.traded);
     }
 grown {a} {b} (next {f = dealing Seller ClosesOld price n} {fs = fs} e moves) =
@@ -133,11 +110,7 @@ grown {a} {b} (next {f = dealing Seller ClosesOld price n} {fs = fs} e moves) =
     record {
       long = record { opening = g.long.opening; closed = omega (arith, many n.0 price before, g.long.closed); new = g.long.new; paired = omega (arith, g.long.paired) };
       short = record { opening = g.short.opening; closed = g.short.closed; new = g.short.new; paired = omega (arith, g.short.paired) };
-      cash = lin_eq (v b.cash.0) (v a.cash.0 ⊕ net (dealing Seller ClosesOld price n ∷ fs)) (omega (
-        arith,
-        eq_lin (v b.cash.0) (v a.cash.0 ⊕ k (n.0 * price.0) ⊕ net fs) g.cash,
-        eq_lin (v (sum_over worth (replicate n.0 price ++ before))) (k (n.0 * price.0) ⊕ v (sum_over worth before)) (sum_many n.0 price before),
-      ));
+      cash = omega (arith, ints, g.cash, sum_many n.0 price before);
       traded = omega (arith, g.traded);
     }
 grown {a} {b} (next {f = dealing Seller ClosesNew price n} {fs = fs} e moves) =
@@ -146,11 +119,7 @@ grown {a} {b} (next {f = dealing Seller ClosesNew price n} {fs = fs} e moves) =
     record {
       long = record { opening = g.long.opening; closed = g.long.closed; new = omega (arith, many n.0 price before, g.long.new, under n.0 a.long e); paired = omega (arith, g.long.paired) };
       short = record { opening = g.short.opening; closed = g.short.closed; new = g.short.new; paired = omega (arith, g.short.paired) };
-      cash = lin_eq (v b.cash.0) (v a.cash.0 ⊕ net (dealing Seller ClosesNew price n ∷ fs)) (omega (
-        arith,
-        eq_lin (v b.cash.0) (v a.cash.0 ⊕ k (n.0 * price.0) ⊕ net fs) g.cash,
-        eq_lin (v (sum_over worth (replicate n.0 price ++ before))) (k (n.0 * price.0) ⊕ v (sum_over worth before)) (sum_many n.0 price before),
-      ));
+      cash = omega (arith, ints, g.cash, sum_many n.0 price before);
       traded = omega (arith, g.traded);
     }
 grown {a} {b} (next {f = delivering Long n} {fs = fs} e moves) =

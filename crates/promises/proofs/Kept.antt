@@ -1,12 +1,13 @@
 -- THEOREM: a record keeps a valid book valid, and a book that is not valid stays so. For any bytes.
 use mathlib.Core.Path.{◌≡◌, refl, sym, ◌∙◌, subst}
 use mathlib.Core.Logic.{◌≢◌, inl}
-use mathlib.Core.Bool.{Bool, true, false, cond}
+use mathlib.Core.Bool.{true}
 use mathlib.Core.List.{List}
 use Prim.Native.Nat.{ℕ, ◌≤◌}
 use native.Mathlib.Decide.{ℕ_discrete}
 use native.Mathlib.Omega.{arith}
 use lib.ListN.{length}
+use Rattle.std.proofs.lemmas.Bool.{cond_both}
 use Rattle.order.specs.Lens as lens
 use Rattle.book.specs.declared.heads.Head.{Head}
 use Rattle.book.specs.declared.accounts.Place.{Place}
@@ -78,8 +79,4 @@ kept_step book r e = of_whole (head_at book) (step book r) (step_whole (whole_of
 -- any record, any bytes
 pub kept : (book r : List ℕ) → valid_book (after book r) ≡ valid_book book
 unfolding after
-kept book r = go (valid_book book) refl
-  where
-    go : (t : Bool) → valid_book book ≡ t → valid_book (cond (valid_book book) (step book r) book) ≡ valid_book book
-    go true e = rw e (kept_step book r e)
-    go false e = rw e e
+kept book r = cond_both (valid_book book) (step book r) book (λ ys. valid_book ys ≡ valid_book book) (λ e. kept_step book r e ∙ sym e) (λ e. refl)

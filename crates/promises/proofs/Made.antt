@@ -1,8 +1,8 @@
 -- What a record of a valid book puts back: one account with its position as it was, two accounts whose changes cancel, or nothing.
-use mathlib.Core.Path.{◌≡◌, refl, sym, ap, ◌∙◌, subst}
+use mathlib.Core.Path.{◌≡◌, refl, ap, ◌∙◌}
 use mathlib.Core.Logic.{◌≢◌}
 use mathlib.Core.List.{List, [], ◌∷◌}
-use Prim.Native.Nat.{ℕ}
+use Prim.Native.Nat.{ℕ, ◌<◌}
 use native.Mathlib.Omega.{arith}
 use Rattle.folds.specs.First.{on_zero}
 use Rattle.folds.proofs.First.{on_refusal}
@@ -91,44 +91,36 @@ unfolding account_at
 sound_account p o w = sound_at p o.rows w
 
 module _ {h : Head} {xs : List ℕ} (o : Whole h xs) where
-  -- the answer 0 taken for what it is
-  on_zero_lem : {ps : List Place} {as' : List Account} (n : ℕ) → n ≡ 0 → Made h xs ps as' → Made h xs ps (on_zero n as' [])
-  on_zero_lem {ps} {as'} n e m = subst (λ (x : ℕ). Made h xs ps (on_zero x as' [])) (sym e) m
+  -- of one account, and of two: the answer 0 taken for what it is
+  one_made : {m n : ℕ} {a : Account} → n ≡ 0 → m < h.members → (Sound (account_at h xs (place m 0)) → Fine (account_at h xs (place m 0)) a) → a.position ≡ (account_at h xs (place m 0)).position → Made h xs (place m 0 ∷ []) (on_zero n (a ∷ []) [])
+  one_made {m} e l fine same =
+      let w : Within h (place m 0) = record { member = l; contract = some_contract o } in
+      let i = sound_account (place m 0) o w in
+      rw e (one w i (fine i) same)
+
+  two_made : {m m' j n : ℕ} {a c : Account} → n ≡ 0 → j < h.contracts → m < h.members → m' < h.members → m ≢ m'
+      → (let a₀ = account_at h xs (place m j) in let c₀ = account_at h xs (place m' j) in Sound a₀ → Sound c₀ → Fine a₀ a × Fine c₀ c × Cancels a₀.position a.position c₀.position c.position)
+      → Made h xs (place m j ∷ place m' j ∷ []) (on_zero n (a ∷ c ∷ []) [])
+  two_made {m} {m'} {j} e k l l' ne all =
+      let w : Within h (place m j) = record { member = l; contract = k } in
+      let w' : Within h (place m' j) = record { member = l'; contract = k } in
+      let i = sound_account (place m j) o w in
+      let i' = sound_account (place m' j) o w' in
+      let fine = all i i' in
+      rw e (two w w' ne i i' fine.0 fine.1 fine.2)
 
   pub made : {q : Option Request} → Formed h q → (posting_at h xs q).says ≡ 0 → Made h xs (places_for q) (posting_at h xs q).become
   made (trading {t} s price) e =
-      let w : Within h (place t.buyer t.contract) = record { member = s.buyer; contract = s.contract } in
-      let w' : Within h (place t.seller t.contract) = record { member = s.seller; contract = s.contract } in
-      let a : Account = account_at h xs (place t.buyer t.contract) in
-      let c : Account = account_at h xs (place t.seller t.contract) in
-      let i : Sound a = sound_account (place t.buyer t.contract) o w in
-      let i' : Sound c = sound_account (place t.seller t.contract) o w' in
-      let d = trade_done t a c e in
-      on_zero_lem (trade_answer t a c) e (two w w' s.differ i i'
-      (traded_fine Buyer t.buying t a i price s.few d.buyer) (traded_fine Seller t.selling t c i' price s.few d.seller)
-      (trade_cancels t a c i i' d.buyer d.seller))
+      let d = trade_done t _ _ e in
+      two_made e s.contract s.buyer s.seller s.differ (λ i i'. (
+        traded_fine Buyer t.buying t _ i price s.few d.buyer,
+        traded_fine Seller t.selling t _ i' price s.few d.seller,
+        trade_cancels t _ _ i i' d.buyer d.seller,
+      ))
   made (pairing {p} s) e =
-      let w : Within h (place p.buyer p.contract) = record { member = s.buyer; contract = s.contract } in
-      let w' : Within h (place p.seller p.contract) = record { member = s.seller; contract = s.contract } in
-      let a : Account = account_at h xs (place p.buyer p.contract) in
-      let c : Account = account_at h xs (place p.seller p.contract) in
-      let i : Sound a = sound_account (place p.buyer p.contract) o w in
-      let i' : Sound c = sound_account (place p.seller p.contract) o w' in
-      let d = pairing_done p a c e in
-      on_zero_lem (pairing_answer p a c) e (two w w' s.differ i i' (paired_fine Long p a i d.buyer) (paired_fine Short p c i' d.seller) (pairing_cancels p a c))
-  made (depositing {p} l sum) e =
-      let w : Within h (place p.member 0) = record { member = l; contract = some_contract o } in
-      let a : Account = account_at h xs (place p.member 0) in
-      let i : Sound a = sound_account (place p.member 0) o w in
-      on_zero_lem (deposit_answer p a) e (one w i (deposited_fine p a i sum (deposit_done p a e)) refl)
-  made (withdrawing {p} l sum) e =
-      let w : Within h (place p.member 0) = record { member = l; contract = some_contract o } in
-      let a : Account = account_at h xs (place p.member 0) in
-      let i : Sound a = sound_account (place p.member 0) o w in
-      on_zero_lem (withdrawal_answer p a) e (one w i (withdrawn_fine p a i sum (withdrawal_done p a e)) refl)
-  made (pledging {p} l market discount) e =
-      let w : Within h (place p.member 0) = record { member = l; contract = some_contract o } in
-      let a : Account = account_at h xs (place p.member 0) in
-      let i : Sound a = sound_account (place p.member 0) o w in
-      on_zero_lem (pledge_answer p a) e (one w i (pledged_fine p a i market discount (pledge_done p a e)) refl)
+      let d = pairing_done p _ _ e in
+      two_made e s.contract s.buyer s.seller s.differ (λ i i'. (paired_fine Long p _ i d.buyer, paired_fine Short p _ i' d.seller, pairing_cancels p (account_at h xs (place p.buyer p.contract)) (account_at h xs (place p.seller p.contract))))
+  made (depositing {p} l sum) e = one_made e l (λ i. deposited_fine p _ i sum (deposit_done p _ e)) refl
+  made (withdrawing {p} l sum) e = one_made e l (λ i. withdrawn_fine p _ i sum (withdrawal_done p _ e)) refl
+  made (pledging {p} l market discount) e = one_made e l (λ i. pledged_fine p _ i market discount (pledge_done p _ e)) refl
   made nothing e = absurd (omega arith)

@@ -4,11 +4,10 @@ use mathlib.Core.List.{List, ◌++◌}
 use Prim.Native.Nat.{ℕ, zero, suc, ◌+◌, ◌*◌}
 use native.Mathlib.Nat.{suc-mul}
 use native.Mathlib.Omega.{arith}
+use borrow.Author.Differences.{ints}
 use lib.IntN.{pos, ◌+ℤ◌}
 use lib.ListN.{length, replicate, length-append, length-replicate}
 use Rattle.numbers.specs.Sum.{sum_of}
-use Rattle.numbers.specs.Linear.{v, k, ◌⊕◌}
-use Rattle.numbers.proofs.Linears.{lin_eq, eq_lin}
 use Rattle.rules.specs.declared.units.Price.{Price}
 use Rattle.profit.specs.Day.{sum_over, worth}
 
@@ -17,7 +16,5 @@ many n price prices = length-append (replicate n price) prices ∙ ap (λ (x : �
 
 pub sum_many : (n : ℕ) (price : Price) (prices : List Price) → sum_over worth (replicate n price ++ prices) ≡ pos (n * price.0) +ℤ sum_over worth prices
 unfolding sum_of
-sum_many zero price prices = lin_eq (v (sum_over worth prices)) (k (0 * price.0) ⊕ v (sum_over worth prices)) (omega arith)
-sum_many (suc n) price prices =
-    lin_eq (k price.0 ⊕ v (sum_over worth (replicate n price ++ prices))) (k (suc n * price.0) ⊕ v (sum_over worth prices))
-    (omega (arith, eq_lin (v (sum_over worth (replicate n price ++ prices))) (k (n * price.0) ⊕ v (sum_over worth prices)) (sum_many n price prices), suc-mul n price.0))
+sum_many zero price prices = omega (arith, ints)
+sum_many (suc n) price prices = omega (arith, ints, sum_many n price prices, suc-mul n price.0)

@@ -1,12 +1,12 @@
 -- THEOREM: a record changes the accounts that it names and nothing else, and those to what its rules make of them; a refused record changes nothing.
 use mathlib.Core.Path.{◌≡◌, refl, sym, ap, ap₂, ◌∙◌, subst}
 use mathlib.Core.Logic.{◌≢◌, ◌⊎◌, inl, inr}
-use mathlib.Core.Bool.{Bool, true, false}
 use mathlib.Core.List.Memᴰ
 use mathlib.Core.List.{List, [], ◌∷◌, Memᴰ}
 use Prim.Native.Nat.{ℕ, ◌≤◌, ◌<◌}
 use native.Mathlib.Omega.{arith}
 use lib.ListN.{length}
+use Rattle.std.proofs.lemmas.Bool.{cond_both}
 use Rattle.wire.specs.LittleEndian.{number_at, Apart}
 use Rattle.wire.proofs.Places.{apart_sym}
 use Rattle.order.specs.Lens as lens
@@ -25,14 +25,14 @@ use Rattle.book.proofs.LensLaws.{length_account, account_stays, get_put, account
 use Rattle.validity.specs.Valid.{valid_book}
 use Rattle.validity.proofs.Fits.{member_fits}
 use Rattle.posting.specs.Records.{request_of}
-use Rattle.posting.specs.Answers.{accounts, places_of, posting, answer, after}
+use Rattle.posting.specs.Answers.{accounts, places_of, posting, step, answer, after}
 use Rattle.promises.specs.Naming.{named, contract_named}
 use Rattle.promises.specs.Promises.{SameBytes, Untouched}
 use Rattle.posting.proofs.Requests.{formed, standing, places_within}
 use Rattle.promises.proofs.Sound.{Sound, sound_next, position_fits}
 use Rattle.promises.proofs.Whole.{whole_of, room}
 use Rattle.promises.proofs.Made.{posting_at, step_puts, step_refused, Made, one, two, made}
-use Rattle.promises.proofs.Answering.{valid_answer, valid_after, invalid_after, accepted_valid}
+use Rattle.promises.proofs.Answering.{valid_answer, valid_after, accepted_valid}
 
 -- ---- what stays
 
@@ -61,10 +61,9 @@ module _ (book r : List ℕ) where
 
   -- after a record the book is as it was, or it has accounts put back at the record's places
   either : (P : List ℕ → Type 0) → P book → ((as' : List Account) → P (lens.puts accounts h book (places_of h r) as')) → P (after book r)
-  either P same other = elim (valid_book book) as (λ (t : Bool). valid_book book ≡ t → P (after book r)) [
-    | true ↦ λ e. subst P (sym (valid_after book r e ∙ step_puts h book (request_of h r))) (other (posting_at h book (request_of h r)).become)
-    | false ↦ λ e. subst P (sym (invalid_after book r e)) same
-  ] refl
+  unfolding after
+  either P same other =
+      cond_both (valid_book book) (step book r) book P (λ e. subst P (sym (step_puts h book (request_of h r))) (other (posting_at h book (request_of h r)).become)) (λ e. same)
 
   -- any bytes apart from the rows of the accounts that are named
   pub bytes_stay : (o size : ℕ)
@@ -129,10 +128,9 @@ module _ (book r : List ℕ) where
 -- ---- a refused record
 
 pub refused_stays : (book r : List ℕ) → (answer book r ≡ 0 → ⊥) → after book r ≡ book
-refused_stays book r n = elim (valid_book book) as (λ (t : Bool). valid_book book ≡ t → after book r ≡ book) [
-  | true ↦ λ e. valid_after book r e ∙ step_refused (head_at book) book (request_of (head_at book) r) (λ z. n (valid_answer book r e ∙ z))
-  | false ↦ λ e. invalid_after book r e
-] refl
+unfolding after
+refused_stays book r n =
+    cond_both (valid_book book) (step book r) book (λ ys. ys ≡ book) (λ e. step_refused (head_at book) book (request_of (head_at book) r) (λ z. n (valid_answer book r e ∙ z))) (λ e. refl)
 
 -- ---- an accepted record
 

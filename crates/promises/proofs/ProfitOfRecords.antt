@@ -4,15 +4,16 @@ use mathlib.Core.Bool.{Bool, true}
 use mathlib.Core.List.{List, [], ◌∷◌}
 use Prim.Native.Nat.{ℕ, ◌≤◌, ◌<◌}
 use native.Mathlib.Omega.{arith}
+use borrow.Author.Differences.{ints}
 use borrow.Author.Tests.{eqb-true}
 use lib.Dec.{eqb}
 use lib.IntN.{ℤ, pos, nat_abs, ◌+ℤ◌, +ℤ_idl}
 use lib.ListN.{length}
+use Rattle.std.proofs.lemmas.Bool.{and_parts}
 use Rattle.numbers.specs.Sum.{total_to}
-use Rattle.numbers.proofs.Ranges.{zero_abs}
 use Rattle.numbers.proofs.Sums.{total_ext}
 use Rattle.folds.specs.Tests.{all_to}
-use Rattle.folds.proofs.Tests.{and_left, and_right, all_at, each}
+use Rattle.folds.proofs.Tests.{all_at, each}
 use Rattle.order.specs.Order.{final}
 use Rattle.rules.specs.declared.units.Lots.{Lots}
 use Rattle.rules.specs.declared.units.Fen.{Fen}
@@ -65,21 +66,21 @@ fresh_row p e =
     record {
       long = fresh_side_lem p.long (t 0);
       short = fresh_side_lem p.short (t 1);
-      cash = zero_abs p.cash.0 (eqb-true (nat_abs p.cash.0) 0 (t 2));
+      cash = omega (arith, ints, eqb-true (nat_abs p.cash.0) 0 (t 2));
       traded = eqb-true p.traded.0 0 (t 3);
     }
 
 module _ (book : List ℕ) (opening : opening_book book ≡ true) where
   valid : valid_book book ≡ true
   unfolding opening_book
-  valid = and_left (valid_book book) (fresh_rows (book_at book)) opening
+  valid = (and_parts (valid_book book) (fresh_rows (book_at book)) opening).0
 
   fresh_at : (m j : ℕ) → m < (head_at book).members → j < (head_at book).contracts → FreshRow (row_at (head_at book) book m j)
   unfolding opening_book fresh_rows
   fresh_at m j l k =
       let b : Book = book_at book in
       let rows : ℕ → Bool = λ x. all_to (λ (i : ℕ). fresh_position (b.position x i)) (head_at book).contracts in
-      let t = and_right (all_to (λ (x : ℕ). fresh_member (b.member x)) (head_at book).members) (all_to rows (head_at book).members) (and_right (valid_book book) (fresh_rows b) opening) in
+      let t = (and_parts (all_to (λ (x : ℕ). fresh_member (b.member x)) (head_at book).members) (all_to rows (head_at book).members) (and_parts (valid_book book) (fresh_rows b) opening).1).1 in
       fresh_row (b.position m j) (all_at (λ (i : ℕ). fresh_position (b.position m i)) (head_at book).contracts (all_at rows (head_at book).members t m l) j k)
 
 -- ---- the row at the end

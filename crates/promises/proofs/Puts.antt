@@ -6,11 +6,10 @@ use mathlib.Core.List.{List}
 use Prim.Native.Nat.{ℕ, ◌+◌, ◌*◌, ◌≤◌, ◌<◌}
 use native.Mathlib.Omega.{arith}
 use native.Mathlib.Decide.{ℕ_discrete}
+use borrow.Author.Differences.{ints}
 use lib.IntN.{ℤ, pos, ◌+ℤ◌}
 use lib.ListN.{length}
-use Rattle.numbers.specs.Linear.{v, ◌⊕◌}
 use Rattle.numbers.specs.Sum.{sum_to}
-use Rattle.numbers.proofs.Linears.{lin_eq, eq_lin}
 use Rattle.numbers.proofs.Sums.{sum_ext, sum_has, total_ext}
 use Rattle.folds.specs.Tests.{all_of, between}
 use Rattle.folds.proofs.Changed.{sum_one, total_one}
@@ -204,13 +203,7 @@ module _ {h : Head} {b b₁ b₂ : Book} {m m' j : ℕ} {a c : Account}
       total d = cash_to d j h.members
 
       both : total b₂ ≡ total b
-      both = lin_eq (v (total b₂)) (v (total b)) (omega (
-        arith,
-        eq_lin (v (total b₁) ⊕ v (b.position m j).cash.0) (v (total b) ⊕ v a.position.cash.0) (cash_at_lem put w),
-        eq_lin (v (total b₂) ⊕ v (b₁.position m' j).cash.0) (v (total b₁) ⊕ v c.position.cash.0) (cash_at_lem put' w'),
-        eq_lin (v (b₁.position m' j).cash.0) (v (b.position m' j).cash.0) (ap (λ (x : Position). x.cash.0) there),
-        eq_lin (v a.position.cash.0 ⊕ v c.position.cash.0) (v (b.position m j).cash.0 ⊕ v (b.position m' j).cash.0) n.cash,
-      ))
+      both = omega (arith, ints, cash_at_lem put w, cash_at_lem put' w', ap (λ (x : Position). x.cash.0) there, n.cash)
 
       cash : (i : ℕ) → i < h.contracts → cash_to b₂ i h.members ≡ pos 0
       cash i k = elim (ℕ_discrete i j) [

@@ -5,7 +5,7 @@ use mathlib.Core.List.{List}
 use Prim.Native.Nat.{ℕ, ◌≤◌, ◌<◌}
 use native.Mathlib.Omega.{arith}
 use lib.ListN.{length}
-use Rattle.folds.proofs.Tests.{and_both}
+use Rattle.std.proofs.lemmas.Bool.{and_from}
 use Rattle.book.specs.declared.heads.Head.{Head}
 use Rattle.book.specs.Layout.{book_length}
 use Rattle.book.specs.Heads.{head_at}
@@ -26,7 +26,7 @@ whole_of xs e = record { head = refl; sound = valid_head xs e; rows = rows_of (b
 pub of_whole : (h : Head) (xs : List ℕ) → Whole h xs → valid_book xs ≡ true
 unfolding valid_book
 of_whole h xs w =
-    and_both (head_ok xs) (valid_rows (book_at xs)) w.sound
+    and_from (head_ok xs) (valid_rows (book_at xs)) w.sound
     (subst (λ (g : Head). valid_rows (book_by g xs) ≡ true) (sym w.head) (valid_of (book_by h xs) w.rows w.balance))
 
 pub room : {h : Head} {xs : List ℕ} → Whole h xs → book_length h ≤ length xs

@@ -1,17 +1,15 @@
 -- The range of what each rule gives, from the ranges of what it is given: for those who call.
 use mathlib.Core.Path.{◌≡◌, ap}
-use mathlib.Core.Bool.{cond}
 use Prim.Native.Nat.{ℕ, ◌+◌, ◌*◌, ◌^◌, ◌≤◌, zero-le}
 use native.Mathlib.Nat.{mul-le-mul}
 use native.Mathlib.Omega.{arith}
-use lib.Dec.{lit≤, ltb, leb, nleb→lt}
+use borrow.Author.Differences.{ints}
+use lib.Dec.{lit≤}
 use lib.IntN.{ℤ, pos, negsuc, ◌+ℤ◌}
-use lib.Signed.{◌≤ℤ◌, le_z, le_z_yes}
+use lib.Signed.{◌≤ℤ◌}
 use Rattle.numbers.specs.Range.{In}
 use Rattle.numbers.specs.Choice.{larger_of}
-use Rattle.numbers.specs.Linear.{v, k, ◌⊕◌}
-use Rattle.numbers.proofs.Ranges.{in_add, in_sub, in_mul, in_quot, in_pos, in_lit, in_weaken, cond_ind}
-use Rattle.numbers.proofs.Linears.{lin_le, le_lin}
+use Rattle.numbers.proofs.Ranges.{in_add, in_sub, in_mul, in_quot, in_pos, in_lit, in_weaken}
 use Rattle.numbers.proofs.Choices.{in_larger}
 use Rattle.rules.specs.Units.{Fen, fen, Lots, Price, Sides, Prices, Figures, Movements}
 use Rattle.rules.specs.Ranges.{Amount, money_most, reserve_most, FiguresIn, RoomLeftIn, SidesIn, MarginIn, ProfitIn, FeeIn, MoneyTonightIn, ReserveTonightIn, FiguresTonightIn}
@@ -29,20 +27,16 @@ fen_is e = ap (λ (amount : Fen). amount.0) e
 
 -- a natural number of fen
 pub amount : {most n : ℕ} → n ≤ most → Amount most (fen (pos n))
-amount {n = n} h = record { within = in_pos h; low = lin_le (k 0) (k n) (omega arith) }
+amount {n = n} h = record { within = in_pos h; low = omega (arith, ints) }
 
 pub amount_add : {A B : ℕ} (x y : Fen) → Amount A x → Amount B y → Amount (A + B) (fen (x.0 +ℤ y.0))
-amount_add x y a b = record {
-  within = in_add a.within b.within;
-  low = lin_le (k 0) (v x.0 ⊕ v y.0) (omega (arith, le_lin (k 0) (v x.0) a.low, le_lin (k 0) (v y.0) b.low));
-}
+amount_add x y a b = record { within = in_add a.within b.within; low = omega (arith, ints) }
 
 pub amount_more : {A B : ℕ} (x : Fen) → A ≤ B → Amount A x → Amount B x
 amount_more x l a = record { within = in_weaken l a.within; low = a.low }
 
 at_least_zero : {most : ℕ} {z : ℤ} → In most z → Amount most (fen (larger_of (pos 0) z))
-at_least_zero {most} {z} h =
-    cond_ind (le_z (pos 0) z) z (pos 0) (λ y. Amount most (fen y)) (λ t. record { within = h; low = le_z_yes t }) (λ t. amount zero-le)
+at_least_zero h = record { within = in_larger (in_pos zero-le) h; low = grind (arith, ints) }
 
 pub minimum_in : (kind : MemberKind) → In 200_000_000 (minimum_of kind).0
 minimum_in Broker = in_lit tt
@@ -77,14 +71,7 @@ discounted_in market discount h d = of market.0 h.within h.low
     of (negsuc n) h l = absurd l.le
 
 pub usable_in : {most : ℕ} (discounted money : Fen) → Amount most discounted → Amount most (usable_of discounted money)
-usable_in {most} discounted money h = of discounted.0 money.0 h.within h.low
-  where
-    of : (d m : ℤ) → In most d → pos 0 ≤ℤ d → Amount most (usable_of (fen d) (fen m))
-    of (negsuc d) m h l = absurd l.le
-    of (pos d) (negsuc m) h l = amount zero-le
-    of (pos d) (pos m) h l =
-        cond_ind (ltb m 0) (pos 0) (cond (leb d (4 * m)) (pos d) (pos (4 * m))) (λ z. Amount most (fen z)) (λ t. amount zero-le)
-        (λ t. cond_ind (leb d (4 * m)) (pos d) (pos (4 * m)) (λ z. Amount most (fen z)) (λ u. amount h.within) (λ u. amount (omega (arith, nleb→lt d (4 * m) u, h.within))))
+usable_in discounted money h = record { within = record { within = grind (arith, ints) }; low = grind (arith, ints) }
 
 pub margin_in : (charged : Lots) (price : Price) (multiplier rate : ℕ) → MarginIn charged price multiplier rate → Amount (2 * 10 ^ 14) (margin_of charged price multiplier rate)
 margin_in charged price multiplier rate h = amount (omega (arith, mul-le-mul (mul-le-mul (mul-le-mul h.charged_in h.price_in) h.multiplier_in) h.rate_in))

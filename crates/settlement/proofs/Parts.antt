@@ -10,7 +10,7 @@ use Rattle.folds.specs.Laid.{bytes_to}
 use Rattle.folds.proofs.Rows.{length_row}
 use Rattle.folds.proofs.Laid.{length_to, four, length_four}
 use Rattle.book.specs.declared.heads.Head.{Head}
-use Rattle.book.specs.Layout.{head_size, contract_size, member_size, position_size, contracts_start, members_start, positions_start, member_off, position_off, book_length}
+use Rattle.book.specs.Layout.{head_size, contract_size, member_size, position_size, contracts_start, members_start, positions_start, book_length}
 use Rattle.book.specs.Heads.{entry_off, head_fields, entry_fields, contracts_entry, members_entry, positions_entry}
 use Rattle.book.specs.Books.{Book}
 use Rattle.settlement.specs.Next.{head_bytes, contract_bytes, member_bytes, positions_bytes, next_bytes, result_size, result_row, result_bytes}
@@ -42,15 +42,6 @@ module _ (h : Head) where
   head_size_lem =
       length_four counts first second third
       ∙ omega (arith, length_row (head_fields h), length_row (entry_fields contracts_entry), length_row (entry_fields (members_entry h)), length_row (entry_fields (positions_entry h)))
-
-  -- where the first rows stand
-  pub first_member : member_off h 0 ≡ members_start h
-  unfolding member_off
-  first_member = omega arith
-
-  pub first_position : position_off h 0 0 ≡ positions_start h
-  unfolding position_off
-  first_position = omega arith
 
 -- ---- the next book and the results
 
@@ -84,8 +75,7 @@ module _ (b : Book) (ps : List ℕ) where
   pub next_length : length (next_bytes b ps) ≡ book_length b.head
   unfolding next_bytes book_length
   next_length =
-      length_four (head_bytes b.head) contracts members positions
-      ∙ (λ i. head_size_lem b.head i + contracts_length i + members_length i + positions_length i)
+      omega (arith, length_four (head_bytes b.head) contracts members positions, head_size_lem b.head, contracts_length, members_length, positions_length)
 
   pub results_length : length (result_bytes b ps) ≡ b.head.members * result_size
   unfolding result_bytes

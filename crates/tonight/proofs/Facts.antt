@@ -9,9 +9,10 @@ use native.Mathlib.Omega.{arith}
 use borrow.Author.Tests.{leb-true, eqb-true}
 use lib.Dec.{eqb, lit≤}
 use lib.ListN.{length}
+use Rattle.std.proofs.lemmas.Bool.{and_parts}
 use Rattle.numbers.proofs.Ranges.{in_weaken}
 use Rattle.folds.specs.Tests.{all_to}
-use Rattle.folds.proofs.Tests.{and_left, and_right, all_at, each, between_high}
+use Rattle.folds.proofs.Tests.{all_at, each, between_high}
 use Rattle.rules.specs.declared.units.Prices.{Prices}
 use Rattle.rules.specs.Ranges.{AtMost, SidesIn, ProfitIn, FeeIn, MarginIn, FiguresIn, FiguresTonightIn}
 use Rattle.rules.specs.Margin.{remaining_of, larger_side_of}
@@ -39,12 +40,13 @@ pub priced : (b : Book) (ps : List ℕ) → prices_ok b ps ≡ true → Priced b
 unfolding prices_ok
 priced b ps e =
     let k = b.head.contracts in
-    let exact = and_left (eqb (length ps) (k * pair_size)) (all_to (pair_ok b ps) k) e in
-    let pairs = and_right (eqb (length ps) (k * pair_size)) (all_to (pair_ok b ps) k) e in
+    let exact = (and_parts (eqb (length ps) (k * pair_size)) (all_to (pair_ok b ps) k) e).0 in
+    let pairs = (and_parts (eqb (length ps) (k * pair_size)) (all_to (pair_ok b ps) k) e).1 in
+    let tests = λ (j : ℕ) (l : j < k). each (pair_tests (tonight_at ps j) (delivery_at ps j) (none_paired b j)) (all_at (pair_ok b ps) k pairs j l) in
     record {
       enough = omega (arith, eqb-true (length ps) (k * pair_size) exact);
-      tonight = λ j l. between_high 1 10_000_000 (tonight_at ps j).0 (each (pair_tests (tonight_at ps j) (delivery_at ps j) (none_paired b j)) (all_at (pair_ok b ps) k pairs j l) 0);
-      delivery = λ j l. leb-true (delivery_at ps j).0 10_000_000 (each (pair_tests (tonight_at ps j) (delivery_at ps j) (none_paired b j)) (all_at (pair_ok b ps) k pairs j l) 1);
+      tonight = λ j l. between_high 1 10_000_000 (tonight_at ps j).0 (tests j l 0);
+      delivery = λ j l. leb-true (delivery_at ps j).0 10_000_000 (tests j l 1);
     }
 
 pub rows_in : (xs ps : List ℕ) (h : Head) → Evening xs ps h → (m j : ℕ) → m < h.members → j < h.contracts →

@@ -2,19 +2,16 @@
 use mathlib.Core.Path.{◌≡◌}
 use mathlib.Core.List.{List}
 use Prim.Native.Nat.{ℕ, ◌+◌, ◌≤◌, ◌<◌}
-use native.Mathlib.Nat.{le_refl}
 use native.Mathlib.Omega.{arith}
 use lib.IntN.{ℤ}
 use Rattle.numbers.proofs.Sums.{total_none, total_next, in_total_most}
-use Rattle.rules.specs.Ranges.{FiguresIn}
 use Rattle.rules.proofs.Totals.{total_in}
 use Rattle.book.specs.declared.heads.Head.{Head}
 use Rattle.book.specs.Books.{Book, book_by}
 use Rattle.tonight.specs.Prices.{prices_by}
-use Rattle.tonight.specs.Night.{tally_in, add_tally, no_tally, tally_to, night_of}
+use Rattle.tonight.specs.Night.{tally_in, add_tally, no_tally, tally_to}
 use Rattle.tonight.specs.Evening.{Evening, TallyFew}
-use Rattle.validity.proofs.RowTests.{member_in}
-use Rattle.tonight.proofs.Facts.{rows_in, tally_one, figures_in}
+use Rattle.tonight.proofs.Facts.{rows_in, tally_one}
 
 module _ (b : Book) (ps : List ℕ) (m : ℕ) where
   abbrev profit_at : ℕ → ℤ
@@ -28,11 +25,11 @@ module _ (b : Book) (ps : List ℕ) (m : ℕ) where
 
   pub tally_none : tally_to b ps m 0 ≡ no_tally
   unfolding tally_to
-  tally_none i = record { profit = record { 0 = total_none profit_at i }; fee = record { 0 = total_none fee_at i }; margin = record { 0 = total_none margin_at i } }
+  tally_none = cc (total_none profit_at, total_none fee_at, total_none margin_at)
 
   pub tally_next : (j : ℕ) → tally_to b ps m (j + 1) ≡ add_tally (tally_to b ps m j) (tally_in b ps m j)
   unfolding tally_to
-  tally_next j i = record { profit = record { 0 = total_next profit_at j i }; fee = record { 0 = total_next fee_at j i }; margin = record { 0 = total_next margin_at j i } }
+  tally_next j = cc (total_next profit_at j, total_next fee_at j, total_next margin_at j)
 
 module _ (xs ps : List ℕ) (h : Head) (e : Evening xs ps h) (m : ℕ) (l : m < h.members) where
   pub tally_at : (j : ℕ) → j < h.contracts → TallyFew 1 (tally_in (book_by h xs) ps m j)
@@ -48,8 +45,3 @@ module _ (xs ps : List ℕ) (h : Head) (e : Evening xs ps h) (m : ℕ) (l : m < 
         fee = total_in 32 (fee_at (book_by h xs) ps m) k few (λ j p. (tally_at j (omega arith)).fee);
         margin = total_in 32 (margin_at (book_by h xs) ps m) k few (λ j p. (tally_at j (omega arith)).margin);
       }
-
-  -- tonight's figures, before refusal 9 is tried
-  pub night_in : FiguresIn (night_of (book_by h xs) ps m).figures
-  unfolding night_of
-  night_in = figures_in ((book_by h xs).member m) (tally_to (book_by h xs) ps m h.contracts) (member_in (book_by h xs) e.ranged m l) (tally_few h.contracts (le_refl h.contracts))

@@ -8,9 +8,10 @@ use borrow.Author.Tests.{leb-true, eqb-true}
 use lib.Dec.{leb}
 use lib.IntN.{nat_abs}
 use lib.ListN.{length}
+use Rattle.std.proofs.lemmas.Bool.{and_parts}
 use Rattle.numbers.proofs.Sums.{sum_has}
 use Rattle.folds.specs.Tests.{all_of, between}
-use Rattle.folds.proofs.Tests.{and_left, and_right, all_at, each, between_low, between_high}
+use Rattle.folds.proofs.Tests.{all_at, each, between_low, between_high}
 use Rattle.book.specs.declared.positions.Side.{Side}
 use Rattle.book.specs.declared.positions.Position.{Position}
 use Rattle.book.specs.Layout.{head_size, book_length}
@@ -28,15 +29,15 @@ pub has_contract : (xs : List ℕ) → head_ok xs ≡ true → 0 < (head_at xs).
 unfolding head_ok
 has_contract xs e =
     let counts = each (head_tests xs) e 1 in
-    let k = and_right (between 1 32 (head_at xs).members) (between 1 32 (head_at xs).contracts) counts in
+    let k = (and_parts (between 1 32 (head_at xs).members) (between 1 32 (head_at xs).contracts) counts).1 in
     omega (arith, between_low 1 32 (head_at xs).contracts k)
 
 pub head_shaped : (xs : List ℕ) → head_ok xs ≡ true → Shaped xs (head_at xs)
 unfolding head_ok
 head_shaped xs e =
     let counts = each (head_tests xs) e 1 in
-    let n = and_left (between 1 32 (head_at xs).members) (between 1 32 (head_at xs).contracts) counts in
-    let k = and_right (between 1 32 (head_at xs).members) (between 1 32 (head_at xs).contracts) counts in
+    let n = (and_parts (between 1 32 (head_at xs).members) (between 1 32 (head_at xs).contracts) counts).0 in
+    let k = (and_parts (between 1 32 (head_at xs).members) (between 1 32 (head_at xs).contracts) counts).1 in
     record {
       members = between_high 1 32 (head_at xs).members n;
       contracts = between_high 1 32 (head_at xs).contracts k;
@@ -75,7 +76,7 @@ cash_most p e = leb-true (nat_abs p.cash.0) (10_000_000 * p.traded.0) (each (pos
 
 pub accepted_most : (b : Book) → rows_ok b ≡ true → (m : ℕ) → m < b.head.members → (b.member m).accepted ≤ 20_000
 accepted_most b e m l =
-    leb-true (b.member m).accepted 20_000 (each (member_tests (b.member m)) (and_right (between 1 2 (b.kind_number m)) (all_of (member_tests (b.member m))) (member_row_lem b e m l)) 0)
+    leb-true (b.member m).accepted 20_000 (each (member_tests (b.member m)) (and_parts (between 1 2 (b.kind_number m)) (all_of (member_tests (b.member m))) (member_row_lem b e m l)).1 0)
 
 -- ---- over a member's contracts
 
@@ -103,11 +104,11 @@ position_in b r m j l l' =
 module _ (xs : List ℕ) (e : valid_book xs ≡ true) where
   pub valid_head : head_ok xs ≡ true
   unfolding valid_book
-  valid_head = and_left (head_ok xs) (valid_rows (book_at xs)) e
+  valid_head = (and_parts (head_ok xs) (valid_rows (book_at xs)) e).0
 
   pub valid_rows_lem : valid_rows (book_at xs) ≡ true
   unfolding valid_book
-  valid_rows_lem = and_right (head_ok xs) (valid_rows (book_at xs)) e
+  valid_rows_lem = (and_parts (head_ok xs) (valid_rows (book_at xs)) e).1
 
   pub valid_shaped : Shaped xs (head_at xs)
   valid_shaped = head_shaped xs valid_head

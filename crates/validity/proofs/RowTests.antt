@@ -1,15 +1,18 @@
 -- The tests of a contract's row, a member's and a position's, as facts and back.
 use mathlib.Core.Path.{◌≡◌}
-use mathlib.Core.Bool.{Bool, true, ◌&&◌}
+use mathlib.Core.Bool.{true}
+use mathlib.Core.List.{[], ◌∷◌}
 use Prim.Native.Nat.{ℕ, ◌*◌, ◌^◌, ◌<◌, zero-le}
 use native.Mathlib.Omega.{arith}
 use borrow.Author.Tests.{leb-true, eqb-true, le-leb, eq-eqb}
 use lib.Dec.{leb}
 use lib.IntN.{ℤ, pos, negsuc, nat_abs}
 use lib.Signed.{◌≤ℤ◌}
+use Rattle.std.proofs.lemmas.Bool.{and_parts}
 use Rattle.numbers.specs.Range.{In}
 use Rattle.folds.specs.Tests.{all_of, between}
-use Rattle.folds.proofs.Tests.{and_right, and_both, each, between_high}
+use Rattle.std.specs.Cmp.Derive.{both_true}
+use Rattle.folds.proofs.Tests.{each, between_high}
 use Rattle.rules.specs.declared.units.Fen.{Fen}
 use Rattle.rules.specs.Units.{fen}
 use Rattle.rules.specs.Ranges.{Amount}
@@ -31,19 +34,15 @@ pub amount_of : (most : ℕ) (sum : Fen) → up_to most sum ≡ true → Amount 
 amount_of most sum e = of sum.0 e
   where
     of : (z : ℤ) → up_to most (fen z) ≡ true → Amount most (fen z)
-    of (pos n) e = amount (leb-true n most (and_right (leb 0 n) (leb n most) e))
+    of (pos n) e = amount (leb-true n most (and_parts (leb 0 n) (leb n most) e).1)
     of (negsuc n) e = let z : ◌≡◌ {A = ℕ} 0 1 = cc in absurd (omega arith)
 
 pub of_amount : (most : ℕ) (sum : Fen) → Amount most sum → up_to most sum ≡ true
 of_amount most sum a = of sum.0 a.within a.low
   where
     of : (z : ℤ) → In most z → pos 0 ≤ℤ z → up_to most (fen z) ≡ true
-    of (pos n) w l = and_both (leb 0 n) (leb n most) (le-leb 0 n zero-le) (le-leb n most w.within)
+    of (pos n) w l = both_true (le-leb 0 n zero-le) (le-leb n most w.within)
     of (negsuc n) w l = absurd l.le
-
--- one more test to a list of tests that hold
-pub more : {a b : Bool} → a ≡ true → b ≡ true → a && b ≡ true
-more {a} {b} p q = and_both a b p q
 
 -- ---- contracts
 
@@ -79,19 +78,19 @@ member_is r e =
     }
 
 pub member_in : (b : Book) → Ranged b → (m : ℕ) → m < b.head.members → MemberIn (b.member m)
-member_in b r m l = member_is (b.member m) (and_right (between 1 2 (b.kind_number m)) (all_of (member_tests (b.member m))) (member_row_lem b r.rows m l))
+member_in b r m l = member_is (b.member m) (and_parts (between 1 2 (b.kind_number m)) (all_of (member_tests (b.member m))) (member_row_lem b r.rows m l)).1
 
 pub in_member : (r : Member) → MemberIn r → all_of (member_tests r) ≡ true
-in_member r m =
-    more (more (more (more (more (more (more
-    (le-leb r.accepted 20_000 m.accepted)
-    (le-leb (nat_abs r.figures.reserve.0) (10 ^ 15) m.reserve.within))
-    (of_amount (10 ^ 16) r.figures.margin m.margin))
-    (of_amount (10 ^ 15) r.figures.usable m.usable))
-    (of_amount (10 ^ 15) r.securities.market m.market))
-    (le-leb r.securities.discount 8_000 m.discount))
-    (of_amount (10 ^ 12 * r.accepted) r.day.deposits m.deposits))
-    (of_amount (10 ^ 12 * r.accepted) r.day.withdrawals m.withdrawals)
+in_member r m i = all_of (
+    le-leb r.accepted 20_000 m.accepted i
+    ∷ le-leb (nat_abs r.figures.reserve.0) (10 ^ 15) m.reserve.within i
+    ∷ of_amount (10 ^ 16) r.figures.margin m.margin i
+    ∷ of_amount (10 ^ 15) r.figures.usable m.usable i
+    ∷ of_amount (10 ^ 15) r.securities.market m.market i
+    ∷ le-leb r.securities.discount 8_000 m.discount i
+    ∷ of_amount (10 ^ 12 * r.accepted) r.day.deposits m.deposits i
+    ∷ of_amount (10 ^ 12 * r.accepted) r.day.withdrawals m.withdrawals i
+    ∷ [])
 
 -- ---- positions
 
@@ -101,17 +100,17 @@ position_is p e =
     record { long = side_in p.long (t 0); short = side_in p.short (t 1); cash = record { within = cash_most p e }; zero = eqb-true p.zero 0 (t 3) }
 
 in_side : (s : Side) → SideIn s → all_of (side_tests s) ≡ true
-in_side s i =
-    more (more (more
-    (le-leb s.closed.0 s.opening.0 i.closed)
-    (le-leb s.opening.0 100_000 i.opening))
-    (le-leb (held_of s) 100_000 i.held))
-    (le-leb s.paired.0 (held_of s) i.paired)
+in_side s k i = all_of (
+    le-leb s.closed.0 s.opening.0 k.closed i
+    ∷ le-leb s.opening.0 100_000 k.opening i
+    ∷ le-leb (held_of s) 100_000 k.held i
+    ∷ le-leb s.paired.0 (held_of s) k.paired i
+    ∷ [])
 
 pub is_position : (p : Position) → PositionIs p → all_of (position_tests p) ≡ true
-is_position p i =
-    more (more (more
-    (in_side p.long i.long)
-    (in_side p.short i.short))
-    (le-leb (nat_abs p.cash.0) (10_000_000 * p.traded.0) i.cash.within))
-    (eq-eqb p.zero 0 i.zero)
+is_position p k i = all_of (
+    in_side p.long k.long i
+    ∷ in_side p.short k.short i
+    ∷ le-leb (nat_abs p.cash.0) (10_000_000 * p.traded.0) k.cash.within i
+    ∷ eq-eqb p.zero 0 k.zero i
+    ∷ [])

@@ -2,5 +2,4 @@ use Rattle.ledger.proofs.InRange.{some_contract}
 use Rattle.ledger.proofs.post_alone.Goals as goal
 
 pub post_one-requires : goal.post_one-requires
-post_one-requires c =
-    (c.requires.0, record { member = c.requires.1; contract = some_contract c.args.h c.args.s.now c.requires.0 })
+post_one-requires c = (c.requires.0, record { member = c.requires.1; contract = some_contract c.requires.0 })

@@ -3,10 +3,10 @@ use Rattle.ledger.proofs.InRange.{shaped_by, account_by}
 use Rattle.ledger.proofs.post_one.Goals as goal
 
 pub account_at-a-requires : goal.account_at-a-requires
-account_at-a-requires c = (shaped_by c.args.h c.args.s.now c.requires.0, c.requires.1)
+account_at-a-requires c = (shaped_by c.requires.0, c.requires.1)
 
 pub lent-requires : goal.lent-requires
-lent-requires c = record { account = rw c.account_at-a.ensures (account_by c.args.h c.args.s.now c.args.n.place c.requires.0 c.requires.1); entry = c.args.n.entry_in }
+lent-requires c = record { account = rw c.account_at-a.ensures (account_by c.requires.0 c.requires.1); entry = c.args.n.entry_in }
 
 pub put_account-requires : goal.put_account-requires
-put_account-requires c = (shaped_by c.args.h c.args.s.now c.requires.0, c.requires.1)
+put_account-requires c = (shaped_by c.requires.0, c.requires.1)

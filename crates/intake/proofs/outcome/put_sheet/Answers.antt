@@ -5,14 +5,11 @@ use Rattle.sheet.specs.Sheet.{line_of, sheet_text}
 use Rattle.intake.proofs.outcome.put_sheet.Goals as goal
 
 pub loop-m-init : goal.loop-m-init
-loop-m-init c = (omega arith, put_none _ c.put_header-at.result (line_of c.args.results.now))
+loop-m-init c = (omega arith, put_none _ _ _)
 
 pub loop-m-preserved : goal.loop-m-preserved
 loop-m-preserved c =
-    let put = c.put_line-at.ensures in (
-      omega (arith, put.upper_bound, c.loop-m.invariant.0),
-      put_next (line_of c.args.results.now) c.loop-m.m c.loop-m.invariant.1 put.put,
-    )
+    (omega (arith, c.put_line-at.ensures.upper_bound), put_next _ c.loop-m.m c.loop-m.invariant.1 c.put_line-at.ensures.put)
 
 pub returns-clause-put : goal.returns-clause-put
 unfolding sheet_text

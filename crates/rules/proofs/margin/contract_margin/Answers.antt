@@ -1,8 +1,7 @@
 -- Every product fits, so the machine's margin is exact.
 use mathlib.Core.Path.{◌≡◌, ◌∙◌, ap}
 use Prim.Native.Nat.{ℕ}
-use lib.IntN.{ℤ, pos, ◌+ℤ◌, ◌*ℤ◌}
-use lib.Signed.{quot_z}
+use lib.IntN.{ℤ, pos}
 use Rattle.numbers.specs.Computation.{Exp, lit, ◌⊞◌, ◌⊠◌, ◌⊘◌}
 use Rattle.numbers.proofs.Computations.{fits, reads, widened}
 use Rattle.rules.specs.Units.{fen, Lots, Price}
@@ -20,9 +19,6 @@ module _ {charged : Lots} {price : Price} {multiplier rate : ℕ} (h : MarginIn 
     abbrev raised : Exp
     raised = product ⊞ lit 9_999
 
-pub overflow_mul-value-2 : goal.overflow_mul-value-2
-overflow_mul-value-2 c = fits (value c.requires c.from.ensures c.from-2.ensures c.from-3.ensures) tt
-
 pub overflow_mul-result : goal.overflow_mul-result
 overflow_mul-result c = fits (product c.requires c.from.ensures c.from-2.ensures c.from-3.ensures c.from-4.ensures) tt
 
@@ -32,4 +28,4 @@ overflow_add-result c = fits (raised c.requires c.from.ensures c.from-2.ensures 
 pub returns : goal.returns
 returns c =
     ap fen (reads (raised c.requires c.from.ensures c.from-2.ensures c.from-3.ensures c.from-4.ensures ⊘ 10_000) tt
-    ∙ (λ i. quot_z (c.from.ensures i *ℤ c.from-2.ensures i *ℤ c.from-3.ensures i *ℤ c.from-4.ensures i +ℤ pos 9_999) (pos 10_000)))
+    ∙ rw (c.from.ensures, c.from-2.ensures, c.from-3.ensures, c.from-4.ensures))

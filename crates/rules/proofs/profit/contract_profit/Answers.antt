@@ -1,7 +1,7 @@
 -- Each product and sum fits, and the three net counts of lots are exact by their promises.
 use mathlib.Core.Path.{◌≡◌, ◌∙◌, ap}
 use Prim.Native.Nat.{ℕ}
-use lib.IntN.{ℤ, pos, ◌+ℤ◌, ◌-ℤ◌, ◌*ℤ◌}
+use lib.IntN.{ℤ, pos}
 use Rattle.numbers.specs.Computation.{Exp, int, ◌⊞◌, ◌⊟◌, ◌⊠◌}
 use Rattle.numbers.proofs.Ranges.{in_eq}
 use Rattle.numbers.proofs.Computations.{fits, reads, widened}
@@ -63,5 +63,4 @@ overflow_mul-result-2 c = fits (whole c.requires c.from-last.ensures c.from-toni
 pub returns : goal.returns
 returns c =
     ap fen (reads (whole c.requires c.from-last.ensures c.from-tonight.ensures c.from-delivery.ensures c.net.ensures c.net-2.ensures c.net-3.ensures c.from.ensures) tt
-    ∙ (λ i. c.from.ensures i *ℤ (c.args.cash.0 +ℤ c.net.ensures i *ℤ c.from-tonight.ensures i -ℤ c.net-2.ensures i *ℤ c.from-last.ensures i
-    +ℤ c.net-3.ensures i *ℤ (c.from-delivery.ensures i -ℤ c.from-tonight.ensures i))))
+    ∙ rw (c.from.ensures, c.from-last.ensures, c.from-tonight.ensures, c.from-delivery.ensures, c.net.ensures, c.net-2.ensures, c.net-3.ensures))

@@ -1,10 +1,9 @@
 -- Contract by contract.
-use Rattle.std.proofs.Common.{◌+◌, ◌*◌, sym, ap, ◌∙◌, arith}
-use Rattle.std.proofs.lemmas.List.Edits.{sets}
-use Rattle.folds.specs.Rows.{row_bytes}
-use Rattle.folds.proofs.Laid.{bytes_none, sets_step}
+use Rattle.std.proofs.Common.{◌+◌, ◌*◌, refl, arith}
+use Rattle.numbers.specs.Fold.{fold_to}
+use Rattle.folds.proofs.Laid.{sets_step}
 use Rattle.book.specs.Layout.{positions_start, position_size, position_off}
-use Rattle.book.specs.Positions.{position_fields, put_position}
+use Rattle.book.specs.Positions.{put_position}
 use Rattle.book.specs.Rows.{book_of}
 use Rattle.book.proofs.Places.{position_within}
 use Rattle.settlement.specs.Next.{position_bytes}
@@ -12,9 +11,8 @@ use Rattle.settlement.proofs.Sizes.{position_size_lem}
 use Rattle.settlement.proofs.next.put_row.Goals as goal
 
 pub loop-j-init : goal.loop-j-init
-loop-j-init c =
-    let rows = c.args.evening.now.rows in
-    ap (sets c.args.next.now (positions_start rows.head + c.args.m * (rows.head.contracts * position_size))) (sym (bytes_none (position_bytes (book_of rows) c.args.m)))
+unfolding fold_to
+loop-j-init c = refl
 
 pub put_position-requires : goal.put_position-requires
 put_position-requires c = omega (arith, position_within c.args.evening.now.rows.head c.args.m c.loop-j.j c.requires.1 (omega arith))
@@ -24,6 +22,4 @@ unfolding position_off put_position
 loop-j-preserved c =
     let rows = c.args.evening.now.rows in
     let m = c.args.m in
-    c.put_position.ensures
-    ∙ (λ i. sets (c.loop-j.invariant i) (c.position_off.ensures i) (row_bytes (position_fields (c.next_position.ensures i))))
-    ∙ sets_step c.args.next.now (positions_start rows.head + m * (rows.head.contracts * position_size)) position_size (position_bytes (book_of rows) m) (position_size_lem (book_of rows) m) c.loop-j.j
+    cc (sets_step c.args.next.now (positions_start rows.head + m * (rows.head.contracts * position_size)) position_size (position_bytes (book_of rows) m) (position_size_lem (book_of rows) m) c.loop-j.j)

@@ -1,7 +1,6 @@
 use Rattle.std.proofs.Common.{arith, refl, ◌≡◌, ◌≤◌, ◌∙◌, ◌++◌, ◌∷◌, [], ℕ, ℤ, List, sym, ap, length, w64, to_z, of_z, FitsSigned}
 use Rattle.std.specs.Fmt.{signed_decimal}
 use Rattle.std.proofs.lemmas.Int.{to_z-of_z}
-use Rattle.wire.specs.LittleEndian.{Bytes}
 use Rattle.folds.specs.Laid.{bytes_to}
 use Rattle.folds.specs.Put.{Put}
 use Rattle.folds.proofs.Puts.{put_same, put_then, put_none, put_next}
@@ -23,31 +22,24 @@ put_held : {b a : List ℕ} {at r : ℕ} (z field : ℤ) (end : ℕ) → FitsSig
 put_held z field end f e p = put_same (ap (λ (t : List ℕ). t ++ (end ∷ [])) (held z field f e)) p
 
 pub loop-field-init : goal.loop-field-init
-loop-field-init c = put_none c.args.buffer.now c.args.at (ended space c.args.results.now c.args.m)
+loop-field-init c = put_none _ _ _
 
 pub put_ended-next-requires : goal.put_ended-next-requires
-unfolding Bytes
 put_ended-next-requires c =
-    let xs = c.args.results.now in
-    let fits = field_fits xs c.args.m (λ i. (c.type_inv.results i).fits) in
-    omega (arith, c.requires.1, c.loop-field.invariant.place, fields_most xs c.args.m fits c.loop-field.field, short c.read-z.result (record { sfits = c.read-z.type_inv }))
+    let fits = field_fits c.args.results.now c.args.m c.type_inv.results in
+    omega (arith, fields_most c.args.results.now c.args.m fits c.loop-field.field, short c.read-z.result (record { sfits = c.read-z.type_inv }))
 
 pub loop-field-preserved : goal.loop-field-preserved
-unfolding Bytes
 loop-field-preserved c =
-    let xs = c.args.results.now in
     let j = c.loop-field.field in
-    put_next (ended space xs c.args.m) j c.loop-field.invariant (put_held _ _ space (field_fits xs c.args.m (λ i. (c.type_inv.results i).fits) j) c.read-z.ensures c.put_ended-next.ensures)
+    put_next _ j c.loop-field.invariant (put_held _ _ space (field_fits c.args.results.now c.args.m c.type_inv.results j) c.read-z.ensures c.put_ended-next.ensures)
 
 pub put_ended-requires : goal.put_ended-requires
-unfolding Bytes
 put_ended-requires c =
-    let xs = c.args.results.now in
-    let fits = field_fits xs c.args.m (λ i. (c.type_inv.results i).fits) in
-    omega (arith, c.requires.1, c.loop-field.invariant.place, fields_most xs c.args.m fits c.loop-field.field, short c.read-z-2.result (record { sfits = c.read-z-2.type_inv }))
+    let fits = field_fits c.args.results.now c.args.m c.type_inv.results in
+    omega (arith, fields_most c.args.results.now c.args.m fits c.loop-field.field, short c.read-z-2.result (record { sfits = c.read-z-2.type_inv }))
 
 pub returns-clause-put : goal.returns-clause-put
-unfolding Bytes
 returns-clause-put c =
     let xs = c.args.results.now in
     let m = c.args.m in
@@ -55,8 +47,7 @@ returns-clause-put c =
     let all : bytes_to f c.loop-field.field ≡ bytes_to f 8 = ap (bytes_to f) (omega arith) in
     put_same (sym (line_is xs m))
     (put_then (put_same all c.loop-field.invariant)
-    (put_held _ (field_at xs m 8) line_feed (field_fits xs m (λ i. (c.type_inv.results i).fits) 8) c.read-z-2.ensures c.put_ended.ensures))
+    (put_held _ (field_at xs m 8) line_feed (field_fits xs m c.type_inv.results 8) c.read-z-2.ensures c.put_ended.ensures))
 
 pub returns-clause-upper_bound : goal.returns-clause-upper_bound
-unfolding Bytes
-returns-clause-upper_bound c = omega (arith, (returns-clause-put c).place, line_most c.args.results.now c.args.m (λ i. (c.type_inv.results i).fits))
+returns-clause-upper_bound c = omega (arith, (returns-clause-put c).place, line_most c.args.results.now c.args.m c.type_inv.results)

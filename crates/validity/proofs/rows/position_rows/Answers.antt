@@ -1,11 +1,8 @@
 use Rattle.std.proofs.Common.{rules, tests}
 use Rattle.folds.proofs.Ranges.{all_in_range}
-use Rattle.book.specs.Rows.{book_of}
-use Rattle.validity.specs.Valid.{position_row, position_rows}
+use Rattle.validity.specs.Valid.{position_rows}
 use Rattle.validity.proofs.rows.position_rows.Goals as goal
 
 pub returns : goal.returns
 unfolding position_rows
-returns c =
-    let b = book_of c.args.rows.now in
-    all_in_range (position_row b) b.head.members _ _ c.all.result c.all.ensures.ran (λ x t q k. search (rules, tests))
+returns c = all_in_range _ _ _ _ _ c.all.ensures.ran (λ x t q k. search (rules, tests))

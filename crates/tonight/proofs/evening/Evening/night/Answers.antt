@@ -1,8 +1,7 @@
-use Rattle.std.proofs.Common.{◌∙◌}
 use native.Mathlib.Nat.{le_refl}
 use Rattle.book.specs.Rows.{book_of}
 use Rattle.validity.proofs.RowTests.{member_in}
-use Rattle.tonight.specs.Night.{night_after, night_of}
+use Rattle.tonight.specs.Night.{night_of}
 use Rattle.tonight.proofs.Sums.{tally_few}
 use Rattle.tonight.proofs.Known.{known}
 use Rattle.tonight.proofs.evening.Evening.night.Goals as goal
@@ -17,4 +16,4 @@ night_after-requires c =
 
 pub returns : goal.returns
 unfolding night_of
-returns c = c.night_after.ensures ∙ (λ i. night_after c.args.m (c.member.ensures i) (c.tally.ensures i))
+returns c = cc

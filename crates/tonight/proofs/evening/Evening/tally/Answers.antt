@@ -1,7 +1,6 @@
 -- Contract by contract; the totals so far are those of at most 32 contracts.
 use Rattle.std.proofs.Common.{sym, ◌∙◌, arith}
 use Rattle.book.specs.Rows.{book_of}
-use Rattle.tonight.specs.Night.{add_tally}
 use Rattle.tonight.proofs.Sums.{tally_none, tally_next, tally_at, tally_few}
 use Rattle.tonight.proofs.Known.{known}
 use Rattle.tonight.proofs.evening.Evening.tally.Goals as goal
@@ -20,7 +19,4 @@ with-t-requires c =
     )
 
 pub loop-j-preserved : goal.loop-j-preserved
-loop-j-preserved c =
-    c.with-t.ensures
-    ∙ (λ i. add_tally (c.loop-j.invariant i) (c.tally_in.ensures i))
-    ∙ sym (tally_next (book_of c.args.self.now.rows) c.args.self.now.prices.now c.args.m c.loop-j.j)
+loop-j-preserved c = cc (tally_next (book_of c.args.self.now.rows) c.args.self.now.prices.now c.args.m c.loop-j.j)

@@ -1,6 +1,4 @@
-use Rattle.std.proofs.Common.{◌∙◌}
-use Rattle.tonight.specs.Prices.{prices_by}
-use Rattle.tonight.specs.Night.{tally_by, tally_in}
+use Rattle.tonight.specs.Night.{tally_in}
 use Rattle.tonight.proofs.Facts.{rows_in}
 use Rattle.tonight.proofs.Known.{known}
 use Rattle.tonight.proofs.evening.Evening.tally_in.Goals as goal
@@ -12,6 +10,4 @@ contract_tally-requires c =
 
 pub returns : goal.returns
 unfolding tally_in
-returns c =
-    let prices = c.prices_at.ensures ∙ (λ i. prices_by (c.contract-c.ensures i).last c.args.self.now.prices.now c.args.j) in
-    c.contract_tally.ensures ∙ (λ i. tally_by (c.contract-c.ensures i) (c.position-p.ensures i) (prices i))
+returns c = cc

@@ -16,9 +16,4 @@ module _ {t u : Tally} (p : TallyFew 32 t × TallyFew 1 u) where
   margin = int p.0.margin.within ⊞ int p.1.margin.within
 
 pub returns : goal.returns
-returns c =
-    λ i. record {
-      profit = record { 0 = reads (profit c.requires) tt i };
-      fee = record { 0 = reads (fee c.requires) tt i };
-      margin = record { 0 = reads (margin c.requires) tt i };
-    }
+returns c = cc (reads (profit c.requires) tt, reads (fee c.requires) tt, reads (margin c.requires) tt)
