@@ -6,7 +6,7 @@ use native.Mathlib.Decide.{dec_le, ℕ_discrete}
 use native.Mathlib.Nat.{mul-le-mul, mul-le-mul_right, suc-mul, le_refl}
 use native.Mathlib.Omega.{arith}
 use Rattle.wire.specs.LittleEndian.{Apart, before, behind}
-use Rattle.book.specs.Layout.{Head, head_size, contract_size, member_size, position_size, contract_off, member_off, position_off, book_length, longest_book}
+use Rattle.book.specs.Layout.{Head, head_size, most_members, most_contracts, contract_size, member_size, position_size, contract_off, member_off, position_off, book_length, longest_book}
 
 -- ---- within the book
 
@@ -28,10 +28,10 @@ position_within h m j p q =
     omega (arith, suc-mul m (h.contracts * position_size), mul-le-mul_right (h.contracts * position_size) p)
 
 -- a member's rows are at most so long, and a book too
-pub rows_most : (h : Head) (m : ℕ) → m ≤ 32 → h.contracts ≤ 32 → m * (h.contracts * position_size) ≤ 32 * (32 * position_size)
+pub rows_most : (h : Head) (m : ℕ) → m ≤ most_members → h.contracts ≤ most_contracts → m * (h.contracts * position_size) ≤ most_members * (most_contracts * position_size)
 rows_most h m p q = mul-le-mul p (mul-le-mul q (le_refl position_size))
 
-pub book_most : (h : Head) → h.members ≤ 32 → h.contracts ≤ 32 → book_length h ≤ longest_book
+pub book_most : (h : Head) → h.members ≤ most_members → h.contracts ≤ most_contracts → book_length h ≤ longest_book
 unfolding book_length
 book_most h p q = omega (arith, rows_most h h.members p q)
 

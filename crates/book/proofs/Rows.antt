@@ -25,7 +25,7 @@ use Rattle.folds.specs.Rows.{Field, row_bytes, widths}
 use Rattle.folds.proofs.Rows.{length_row, row_back}
 use Rattle.folds.proofs.Laid.{number_stays, sets_sets}
 use Rattle.book.specs.Layout.{contract_size, member_size, position_size, last_at, multiplier_at, rate_at, fee_at, delivery_at, contract_zero_at, kind_at, accepted_at, reserve_at, margin_at, usable_at, market_at, discount_at, deposits_at, withdrawals_at, long_at, short_at, opening_at, closed_at, new_at, paired_at, cash_at, traded_at, position_zero_at}
-use Rattle.book.specs.ContractRows.{Contract, contract_at, contract_fields, put_contract}
+use Rattle.book.specs.ContractRows.{Terms, Contract, contract_at, contract_fields, put_contract}
 use Rattle.book.specs.Members.{Member, kind_of, kind_number, kind_number_at, figures_at, securities_at, day_at, member_at, member_fields, put_member}
 use Rattle.book.specs.Positions.{Side, Position, side_at, position_at, position_fields, put_position}
 
@@ -145,12 +145,15 @@ position_member xs o o' r r' p = laid_laid xs o o' (position_fields r) (member_f
 
 -- ---- a row reads back
 
+pub record TermsFit (t : Terms) : Type 0 where
+  pub last : t.last.0 < 2 ^ 32
+  pub multiplier : t.multiplier < 2 ^ 32
+  pub rate : t.rate < 2 ^ 32
+  pub fee : t.fee < 2 ^ 32
+  pub delivery : t.delivery < 2 ^ 32
+
 pub record ContractFits (c : Contract) : Type 0 where
-  pub last : c.last.0 < 2 ^ 32
-  pub multiplier : c.multiplier < 2 ^ 32
-  pub rate : c.rate < 2 ^ 32
-  pub fee : c.fee < 2 ^ 32
-  pub delivery : c.delivery < 2 ^ 32
+  pub terms : TermsFit c.terms
   pub zero : c.zero < 2 ^ 32
 
 pub record FiguresFit (f : Figures) : Type 0 where
@@ -204,11 +207,13 @@ unfolding contract_at put_contract
 contract_back xs o c h f =
     let g = row_back (contract_fields c) xs o refl h in
     λ i. record {
-      last = record { 0 = (g 0 (lit< tt) ∙ mod-eq_of_lt f.last) i };
-      multiplier = (g 1 (lit< tt) ∙ mod-eq_of_lt f.multiplier) i;
-      rate = (g 2 (lit< tt) ∙ mod-eq_of_lt f.rate) i;
-      fee = (g 3 (lit< tt) ∙ mod-eq_of_lt f.fee) i;
-      delivery = (g 4 (lit< tt) ∙ mod-eq_of_lt f.delivery) i;
+      terms = record {
+        last = record { 0 = (g 0 (lit< tt) ∙ mod-eq_of_lt f.terms.last) i };
+        multiplier = (g 1 (lit< tt) ∙ mod-eq_of_lt f.terms.multiplier) i;
+        rate = (g 2 (lit< tt) ∙ mod-eq_of_lt f.terms.rate) i;
+        fee = (g 3 (lit< tt) ∙ mod-eq_of_lt f.terms.fee) i;
+        delivery = (g 4 (lit< tt) ∙ mod-eq_of_lt f.terms.delivery) i;
+      };
       zero = (g 5 (lit< tt) ∙ mod-eq_of_lt f.zero) i;
     }
 

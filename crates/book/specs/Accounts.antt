@@ -1,6 +1,6 @@
 -- 01, Day records: an account, what one member is to one record: its row and its row in the record's contract.
 use Rattle.std.specs.Prelude.{ℕ, ◌≤◌, ◌<◌, List, ◌≢◌, length}
-use Rattle.book.specs.Layout.{member_off, position_off, book_length}
+use Rattle.book.specs.Layout.{most_members, most_contracts, member_off, position_off, book_length}
 use Rattle.book.specs.Heads.{Head}
 use Rattle.book.specs.Members.{member_at, put_member}
 use Rattle.book.specs.Positions.{position_at, put_position}
@@ -19,8 +19,8 @@ put_account h xs p a = put_position (put_member xs (member_off h p.member) a.mem
 
 -- a book of the head h has room in xs
 pub record Shaped (xs : List ℕ) (h : Head) : Type 0 where
-  pub members : h.members ≤ 32
-  pub contracts : h.contracts ≤ 32
+  pub members : h.members ≤ most_members
+  pub contracts : h.contracts ≤ most_contracts
   pub enough : book_length h ≤ length xs
 
 -- the place lies in a book of the head h

@@ -32,8 +32,12 @@ row_size_at = 2
 abbrev pub offset_at : ℕ
 offset_at = 4
 
-abbrev pub longest_book : ℕ
-longest_book = 52_000
+-- a book has at most so many members and contracts
+abbrev pub most_members : ℕ
+most_members = 32
+
+abbrev pub most_contracts : ℕ
+most_contracts = 32
 
 -- ---- section 1: contracts
 
@@ -148,3 +152,7 @@ position_off h m j = positions_start h + m * (h.contracts * position_size) + j *
 -- 32 + 24k + 64n + 48nk
 unfoldable pub book_length : Head → ℕ
 book_length h = positions_start h + h.members * (h.contracts * position_size)
+
+-- the length of a book with as many members and contracts as it may have: 52,000
+abbrev pub longest_book : ℕ
+longest_book = head_size + most_contracts * contract_size + most_members * member_size + most_members * (most_contracts * position_size)

@@ -6,4 +6,6 @@ pub mod Members
 pub mod Positions
 pub mod Books
 pub mod Accounts
+pub mod Whole
 pub mod Rows
+pub mod Views

@@ -1,28 +1,47 @@
 // Section 1: a contract's row.
 ghost use Rattle.std.specs.Prelude.{◌≡◌, ◌+◌, ◌≤◌, ◌<◌, length};
 ghost use Rattle.folds.specs.Rows.{row_bytes};
-ghost use Rattle.book.specs.Layout.{contract_size, contract_off};
-ghost use Rattle.book.specs.ContractRows.{contract_at, contract_fields, put_contract};
+ghost use Rattle.book.specs.Layout.{most_contracts, contract_size, contract_off};
+ghost use Rattle.book.specs.ContractRows.{terms_at, contract_at, contract_fields, put_contract};
 
 use crate::layout;
 use rules::units::Price;
 
+/// What a posting may see of a contract. No record changes it.
 #[derive(Clone, Copy)]
-pub struct Contract {
+pub struct Terms {
     pub last: Price,
     pub multiplier: u32,
     pub rate: u32,
     pub fee: u32,
     pub delivery: u32,
+}
+
+#[derive(Clone, Copy)]
+pub struct Contract {
+    pub terms: Terms,
     pub zero: u32,
 }
 
 #[tactic(auto, unfolding(crate::specs::Layout::contract_off))]
 pub fn contract_off(j: usize) -> usize
-    requires { j ≤ 32 }
+    requires { j ≤ most_contracts }
     ensures { result ≡ contract_off j }
 {
     layout::HEAD + j * layout::CONTRACT
+}
+
+#[tactic(auto, unfolding(crate::specs::ContractRows::terms_at))]
+fn terms_in(row: &[u8; layout::CONTRACT]) -> Terms
+    ensures { result ≡ terms_at row.now 0 }
+{
+    Terms {
+        last: Price(wire::read(row, layout::LAST)),
+        multiplier: wire::read(row, layout::MULTIPLIER),
+        rate: wire::read(row, layout::RATE),
+        fee: wire::read(row, layout::FEE),
+        delivery: wire::read(row, layout::DELIVERY),
+    }
 }
 
 #[tactic(auto, unfolding(crate::specs::ContractRows::contract_at))]
@@ -30,11 +49,7 @@ fn contract_in(row: &[u8; layout::CONTRACT]) -> Contract
     ensures { result ≡ contract_at row.now 0 }
 {
     Contract {
-        last: Price(wire::read(row, layout::LAST)),
-        multiplier: wire::read(row, layout::MULTIPLIER),
-        rate: wire::read(row, layout::RATE),
-        fee: wire::read(row, layout::FEE),
-        delivery: wire::read(row, layout::DELIVERY),
+        terms: terms_in(row),
         zero: wire::read(row, layout::CONTRACT_ZERO),
     }
 }
@@ -49,12 +64,13 @@ pub fn contract_at(s: &[u8], off: usize) -> Contract
 fn contract_row(c: Contract) -> [u8; layout::CONTRACT]
     ensures { result ≡ row_bytes (contract_fields c) }
 {
+    let terms = c.terms;
     let mut row = [0; layout::CONTRACT];
-    wire::write(&mut row, layout::LAST, c.last.0);
-    wire::write(&mut row, layout::MULTIPLIER, c.multiplier);
-    wire::write(&mut row, layout::RATE, c.rate);
-    wire::write(&mut row, layout::FEE, c.fee);
-    wire::write(&mut row, layout::DELIVERY, c.delivery);
+    wire::write(&mut row, layout::LAST, terms.last.0);
+    wire::write(&mut row, layout::MULTIPLIER, terms.multiplier);
+    wire::write(&mut row, layout::RATE, terms.rate);
+    wire::write(&mut row, layout::FEE, terms.fee);
+    wire::write(&mut row, layout::DELIVERY, terms.delivery);
     wire::write(&mut row, layout::CONTRACT_ZERO, c.zero);
     row
 }

@@ -1,6 +1,6 @@
 // The head and the table of contents.
 ghost use Rattle.std.specs.Prelude.{◌≡◌, ◌+◌, ◌≤◌, length};
-ghost use Rattle.book.specs.Layout.{head_size, entry_size, members_start, positions_start, book_length};
+ghost use Rattle.book.specs.Layout.{head_size, most_members, most_contracts, entry_size, members_start, positions_start, book_length};
 ghost use Rattle.book.specs.Heads.{head_at, entry_at, contracts_entry, members_entry, positions_entry};
 
 use crate::layout;
@@ -48,14 +48,14 @@ pub fn entry_at(s: &[u8], off: usize) -> Entry
 // Where the sections begin, where the book ends, and what the table of contents says of each section. The counts' range stays a clause: a second type of head, which is read before it is checked, would be no plainer.
 impl Head {
     pub fn members_start(self) -> usize
-        requires { self.contracts ≤ 32 }
+        requires { self.contracts ≤ most_contracts }
         ensures { result ≡ members_start self }
     {
         layout::HEAD + self.contracts * layout::CONTRACT
     }
 
     pub fn positions_start(self) -> usize
-        requires { (self.members ≤ 32) × (self.contracts ≤ 32) }
+        requires { (self.members ≤ most_members) × (self.contracts ≤ most_contracts) }
         ensures { result ≡ positions_start self }
     {
         self.members_start() + self.members * layout::MEMBER
@@ -63,7 +63,7 @@ impl Head {
 
     #[tactic(auto, unfolding(crate::specs::Layout::book_length))]
     pub fn book_length(self) -> usize
-        requires { (self.members ≤ 32) × (self.contracts ≤ 32) }
+        requires { (self.members ≤ most_members) × (self.contracts ≤ most_contracts) }
         ensures { result ≡ book_length self }
     {
         self.positions_start() + self.members * (self.contracts * layout::POSITION)
@@ -80,7 +80,7 @@ impl Head {
     }
 
     pub fn members_entry(self) -> Entry
-        requires { self.contracts ≤ 32 }
+        requires { self.contracts ≤ most_contracts }
         ensures { result ≡ members_entry self }
     {
         Entry {
@@ -91,7 +91,7 @@ impl Head {
     }
 
     pub fn positions_entry(self) -> Entry
-        requires { (self.members ≤ 32) × (self.contracts ≤ 32) }
+        requires { (self.members ≤ most_members) × (self.contracts ≤ most_contracts) }
         ensures { result ≡ positions_entry self }
     {
         Entry {

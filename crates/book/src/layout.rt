@@ -17,7 +17,10 @@ pub const ROW_SIZE: usize = 2;
 
 pub const OFFSET: usize = 4;
 
-pub const LONGEST_BOOK: usize = 52_000;
+// A book has at most so many members and contracts.
+pub const MOST_MEMBERS: usize = 32;
+
+pub const MOST_CONTRACTS: usize = 32;
 
 // Section 1.
 pub const CONTRACT: usize = 24;
@@ -75,3 +78,9 @@ pub const CASH: usize = 32;
 pub const TRADED: usize = 40;
 
 pub const POSITION_ZERO: usize = 44;
+
+// The length of a book with as many members and contracts as it may have: 52,000.
+pub const LONGEST_BOOK: usize = HEAD
+    + MOST_CONTRACTS * CONTRACT
+    + MOST_MEMBERS * MEMBER
+    + MOST_MEMBERS * (MOST_CONTRACTS * POSITION);

@@ -1,7 +1,7 @@
 // Section 2: a member's row, in parts, so that a longer row is one part more. Rows are read and written alike in all three sections, each by its own fields, over `bytes_at` and `put_bytes`.
 ghost use Rattle.std.specs.Prelude.{◌≡◌, ◌+◌, ◌≤◌, length};
 ghost use Rattle.folds.specs.Rows.{put_fields, row_bytes};
-ghost use Rattle.book.specs.Layout.{member_size, member_off};
+ghost use Rattle.book.specs.Layout.{most_members, most_contracts, member_size, member_off};
 ghost use Rattle.book.specs.Members.{kind_of, figures_at, securities_at, day_at, member_at, figures_fields, securities_fields, day_fields, member_fields, put_member};
 
 use crate::heads::Head;
@@ -33,7 +33,7 @@ pub struct Member {
 
 #[tactic(auto, unfolding(crate::specs::Layout::member_off))]
 pub fn member_off(h: Head, m: usize) -> usize
-    requires { (h.contracts ≤ 32) × (m ≤ 32) }
+    requires { (h.contracts ≤ most_contracts) × (m ≤ most_members) }
     ensures { result ≡ member_off h m }
 {
     h.members_start() + m * layout::MEMBER

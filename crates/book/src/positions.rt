@@ -1,7 +1,7 @@
 // Section 3: a member's row in one contract.
 ghost use Rattle.std.specs.Prelude.{◌≡◌, ◌+◌, ◌≤◌, length};
 ghost use Rattle.folds.specs.Rows.{put_fields, row_bytes};
-ghost use Rattle.book.specs.Layout.{position_size, short_at, position_off};
+ghost use Rattle.book.specs.Layout.{most_members, most_contracts, position_size, short_at, position_off};
 ghost use Rattle.book.specs.Positions.{side_at, position_at, lots_fields, dealt_fields, position_fields, put_position};
 
 use crate::heads::Head;
@@ -28,7 +28,7 @@ pub struct Position {
 
 #[tactic(auto, unfolding(crate::specs::Layout::position_off))]
 pub fn position_off(h: Head, m: usize, j: usize) -> usize
-    requires { (h.members ≤ 32) × (h.contracts ≤ 32) × (m ≤ 32) × (j ≤ 32) }
+    requires { (h.members ≤ most_members) × (h.contracts ≤ most_contracts) × (m ≤ most_members) × (j ≤ most_contracts) }
     ensures { result ≡ position_off h m j }
 {
     h.positions_start() + m * (h.contracts * layout::POSITION) + j * layout::POSITION

@@ -26,9 +26,9 @@ pub fn clearing_post(book: &mut [u8], record: &[u8]) -> u8
 
 // 0 if the book is settled at these prices, else its refusal number; `next` and `results` change where it is 0, at their starts.
 pub fn clearing_settle(book: &[u8], prices: &[u8], next: &mut [u8], results: &mut [u8]) -> u8
-    ensures value { result ≡ settle_answer book.now prices.now (length next.old) (length results.old) }
-    ensures next_after { next.new ≡ next_after book.now prices.now next.old results.old }
-    ensures results_after { results.new ≡ results_after book.now prices.now next.old results.old }
+    ensures value { result ≡ settle_answer book.now (record { prices = prices.now }) (length next.old) (length results.old) }
+    ensures next_after { next.new ≡ next_after book.now (record { prices = prices.now }) next.old results.old }
+    ensures results_after { results.new ≡ results_after book.now (record { prices = prices.now }) next.old results.old }
 {
     answer(settlement::settle(book, prices, next, results))
 }

@@ -31,9 +31,9 @@ pub extern "C" fn clearing_settle(
     next: &mut [u8],
     results: &mut [u8],
 ) -> u8
-    ensures value { result ≡ settle_answer book.now prices.now (length next.old) (length results.old) }
-    ensures next_after { next.new ≡ next_after book.now prices.now next.old results.old }
-    ensures results_after { results.new ≡ results_after book.now prices.now next.old results.old }
+    ensures value { result ≡ settle_answer book.now (record { prices = prices.now }) (length next.old) (length results.old) }
+    ensures next_after { next.new ≡ next_after book.now (record { prices = prices.now }) next.old results.old }
+    ensures results_after { results.new ≡ results_after book.now (record { prices = prices.now }) next.old results.old }
 {
     clearing::clearing_settle(book, prices, next, results)
 }

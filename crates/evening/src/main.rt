@@ -3,9 +3,9 @@
 
 mod standard;
 
-ghost use Rattle.std.specs.Prelude.{◌≡◌, ◌+◌, ◌≤◌, ◌<◌, ◌^◌, length, min, IfOk, IfSome};
-ghost use Rattle.book.specs.Layout.{head_size};
-ghost use Rattle.intake.specs.Intake.{records_in};
+ghost use Rattle.std.specs.Prelude.{◌≡◌, ◌+◌, ◌*◌, ◌≤◌, ◌<◌, ◌^◌, length, min, IfOk, IfSome};
+ghost use Rattle.book.specs.Layout.{head_size, longest_book};
+ghost use Rattle.intake.specs.Intake.{record_size, records_in, most_prices};
 
 use book::layout;
 use intake::{outcome, parts, records};
@@ -16,17 +16,17 @@ use std::io::{self, Print, Read};
 const INPUT: usize = 65_536;
 
 // The records of a piece: as many whole ones as those bytes hold, so that none lies in two pieces.
-const PIECE: usize = 2_730;
+const PIECE: usize = INPUT / parts::RECORD;
 
 // The bytes for lines: the longest lines of a piece of which every record is refused fill them.
-const LINES: usize = 90_090;
+const LINES: usize = PIECE * sheet::lines::LONGEST_REFUSED;
 
-// The results of 32 members.
-const RESULTS: usize = 2_304;
+// The results of as many members as a book may have.
+const RESULTS: usize = layout::MOST_MEMBERS * settlement::results::RESULT;
 
 // Reads the book; answers its length, where it is there.
 fn read_book(day: &mut impl Read, book: &mut [u8; layout::LONGEST_BOOK]) -> Option<usize>
-    ensures { IfSome result (λ n. (head_size ≤ n) × (n ≤ 52000)) }
+    ensures { IfSome result (λ n. (head_size ≤ n) × (n ≤ longest_book)) }
 {
     let head = standard::read(day, &mut book[..layout::HEAD]);
     let total = parts::book_total(&book[..head]);
@@ -43,7 +43,7 @@ fn read_book(day: &mut impl Read, book: &mut [u8; layout::LONGEST_BOOK]) -> Opti
 }
 
 fn piece_of(left: u64) -> usize
-    ensures { result ≡ min left 2730 }
+    ensures { result ≡ min left PIECE }
 {
     left.min(PIECE as u64) as usize
 }
@@ -56,7 +56,7 @@ fn post_piece(
     place: u64,
     lines: &mut [u8; LINES],
 ) -> io::Result<()>
-    requires { (length piece.now ≤ 65520) × (place + records_in (length piece.now) < 2 ^ 64) }
+    requires { (length piece.now ≤ PIECE * record_size) × (place + records_in (length piece.now) < 2 ^ 64) }
 {
     let end = records::post_records(book, piece, place, lines);
     standard::write(rt, &lines[..end])
@@ -90,7 +90,7 @@ fn post_day(
     input: &mut [u8; INPUT],
     lines: &mut [u8; LINES],
 ) -> io::Result<usize>
-    ensures { IfOk result (λ n. n ≤ 257) }
+    ensures { IfOk result (λ n. n ≤ most_prices) }
 {
     let got = standard::read(day, &mut input[..parts::COUNT]);
     let count = parts::count_of(&input[..got]);

@@ -10,14 +10,15 @@ use lib.Seq.{take-add, take_all}
 use Rattle.numbers.specs.Fold.{fold_to}
 use Rattle.folds.specs.Laid.{bytes_to}
 use Rattle.validity.specs.Valid.{valid_book}
-use Rattle.order.specs.Lens.{Posting, gets}
+use Rattle.order.specs.Lens.{Posting, reads}
 use Rattle.book.specs.declared.accounts.Account.{Account}
 use Rattle.book.specs.Heads.{head_at}
+use Rattle.book.specs.Views.{Count, view_at, sights}
 use Rattle.std.specs.Prelude.{Option, None}
-use Rattle.posting.specs.declared.records.Request.{Request}
-use Rattle.posting.specs.Records.{request_of, places_for}
+use Rattle.requests.specs.declared.records.Request.{Request}
+use Rattle.requests.specs.Records.{request_of, places_for}
 use Rattle.posting.specs.Postings.{posting_of}
-use Rattle.posting.specs.Answers.{accounts, answer, after}
+use Rattle.posting.specs.Answers.{answer, after}
 use Rattle.intake.specs.Intake.{record_size, records_in, record_bytes}
 
 records_first : (xs : List ℕ) (n : ℕ) → bytes_to (record_bytes xs) n ≡ take (n * record_size) xs
@@ -46,8 +47,8 @@ module _ (book r : List ℕ) where
   unfolding request_of
   no_request h = rw (ne_eqb (length r) record_size h)
 
-  abbrev posting_for : Option Request → Posting Account ℕ ℕ
-  posting_for q = posting_of q (gets accounts (head_at book) book (places_for q))
+  abbrev posting_for : Option Request → Posting Account ℕ Count
+  posting_for q = posting_of q (reads view_at (head_at book) book (places_for q))
 
   pub short_refused : valid_book book ≡ true → (length r ≡ record_size → ⊥) → answer book r ≡ 1
   unfolding answer

@@ -2,13 +2,13 @@
 use Rattle.std.specs.Prelude.{ℕ, ◌+◌, ◌*◌, ◌/◌, Bool, cond, List, [], ◌∷◌, leb, length, take, drop}
 use Rattle.wire.specs.LittleEndian.{number_at}
 use Rattle.folds.specs.Tests.{all_of}
-use Rattle.book.specs.Layout.{head_size, longest_book}
+use Rattle.book.specs.Layout.{head_size, most_contracts, longest_book}
 use Rattle.book.specs.Heads.{total_of}
-pub use Rattle.posting.specs.Records.{record_size}
+pub use Rattle.requests.specs.Records.{record_size}
 
 -- ---- the book
 
--- the 32 bytes of the head are there, and the total is in 32..52,000
+-- the bytes of the head are there, and the total is neither below theirs nor above the longest book's
 abbrev pub total_tests : List ℕ → List Bool
 total_tests bytes = leb head_size (length bytes) ∷ leb head_size (total_of bytes) ∷ leb (total_of bytes) longest_book ∷ []
 
@@ -45,9 +45,9 @@ record_bytes bytes i = take record_size (drop (i * record_size) bytes)
 abbrev pub pair_size : ℕ
 pair_size = 8
 
--- as many bytes as settlement has to see: the pairs of 32 contracts, and one byte more, by which bytes after the last pair are refused
+-- as many bytes as settlement has to see: the pairs of as many contracts as a book may have, and one byte more, by which bytes after the last pair are refused
 abbrev pub most_prices : ℕ
-most_prices = 32 * pair_size + 1
+most_prices = most_contracts * pair_size + 1
 
 -- of all bytes that follow the records, those that settlement is handed
 abbrev pub prices_of : List ℕ → List ℕ

@@ -2,6 +2,7 @@
 use Rattle.std.specs.Prelude.{ℕ, zero, suc, ◌+◌, ◌*◌, ◌≤◌, ◌<◌, ◌^◌, min, List, [], length}
 use Rattle.folds.specs.Laid.{bytes_to}
 use Rattle.folds.specs.First.{on_zero}
+use Rattle.book.specs.Layout.{most_members}
 use Rattle.book.specs.Heads.{head_at}
 use Rattle.posting.specs.Answers.{answer, after}
 use Rattle.sheet.specs.Sheet.{sheet_text, refused_line, settlement_refused, result_size, longest_refused, longest_line, header_length}
@@ -40,9 +41,9 @@ pub record LinesRoom (records : List ℕ) (place : ℕ) (lines : List ℕ) : Typ
 unfoldable pub outcome : ℕ → List ℕ → ℕ → List ℕ
 outcome number results members = on_zero number (sheet_text results members) (settlement_refused number)
 
--- the sheet's members. A book that is settled is valid and has at most 32, so that all of them are on it
+-- the sheet's members. A book that is settled is valid and has at most so many, so that all of them are on it
 abbrev pub members_on : List ℕ → ℕ
-members_on book = min (head_at book).members 32
+members_on book = min (head_at book).members most_members
 
 pub record SheetRoom (members : ℕ) (results lines : List ℕ) : Type 0 where
   pub rows : members * result_size ≤ length results

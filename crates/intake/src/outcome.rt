@@ -1,19 +1,19 @@
 // What is printed after the refused records: the sheet, or that the settlement is refused.
 ghost use Rattle.std.specs.Prelude.{◌≡◌, ◌+◌, ◌*◌, ◌≤◌, ◌<◌, length};
-ghost use Rattle.book.specs.Layout.{head_size};
+ghost use Rattle.book.specs.Layout.{head_size, most_members};
 ghost use Rattle.sheet.specs.Sheet.{sheet_text, header_length, longest_line};
 ghost use Rattle.folds.specs.Put.{Put};
 ghost use Rattle.intake.specs.Posted.{outcome, members_on, SheetRoom};
 
-pub const MOST_MEMBERS: usize = 32;
+use book::layout;
 
-/// The sheet's members: those of the book's head, and at most 32 of them.
+/// The sheet's members: those of the book's head, and at most as many as a book may have.
 pub fn members_on(book: &[u8]) -> usize
     requires { head_size ≤ length book.now }
     ensures value { result ≡ members_on book.now }
-    ensures upper_bound { result ≤ 32 }
+    ensures upper_bound { result ≤ most_members }
 {
-    book::heads::head_at(book).members.min(MOST_MEMBERS)
+    book::heads::head_at(book).members.min(layout::MOST_MEMBERS)
 }
 
 fn put_sheet(lines: &mut [u8], results: &[u8], members: usize) -> usize

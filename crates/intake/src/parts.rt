@@ -9,6 +9,9 @@ pub const COUNT: usize = 4;
 
 pub const RECORD: usize = 24;
 
+// A settlement price and a delivery price.
+const PAIR: usize = 8;
+
 /// The length of the book that a head gives, or 0: no book is so short. It is at most LONGEST_BOOK.
 // A number and no `Option`: the clause names `book_total` of specs/Intake.antt, which is 0 where there is none.
 pub fn book_total(bytes: &[u8]) -> usize
@@ -72,5 +75,5 @@ pub fn record_end(length: usize, from: usize) -> usize
 pub fn most_prices() -> usize
     ensures { result ≡ most_prices }
 {
-    257
+    layout::MOST_CONTRACTS * PAIR + 1
 }

@@ -17,9 +17,9 @@ use Rattle.validity.specs.Valid.{valid_book}
 use Rattle.validity.specs.Totals.{Ranged}
 use Rattle.validity.proofs.Facts.{has_contract, traded_most, position_in, valid_head, valid_shaped, valid_ranged}
 use Rattle.validity.proofs.RowTests.{member_in}
-use Rattle.posting.specs.declared.records.Request.{Request}
-use Rattle.posting.specs.Records.{request_of}
-use Rattle.posting.proofs.Requests.{Formed, trading, pairing, depositing, withdrawing, pledging, nothing, formed}
+use Rattle.requests.specs.declared.records.Request.{Request}
+use Rattle.requests.specs.Records.{request_of}
+use Rattle.requests.proofs.Requests.{Formed, trading, pairing, depositing, withdrawing, pledging, nothing, formed}
 use Rattle.posting.specs.Ranges.{AccountIn}
 use Rattle.ledger.specs.Puts.{IsBookOf, RequestIn}
 

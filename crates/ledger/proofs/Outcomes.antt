@@ -8,31 +8,31 @@ use Rattle.book.specs.declared.heads.Head.{Head}
 use Rattle.book.specs.declared.accounts.Place.{Place}
 use Rattle.book.specs.declared.accounts.Account.{Account}
 use Rattle.book.specs.Accounts.{place, account_at, put_account}
-use Rattle.posting.specs.declared.records.Trade.{Trade}
-use Rattle.posting.specs.declared.records.Pairing.{Pairing}
-use Rattle.posting.specs.declared.records.Payment.{Payment}
-use Rattle.posting.specs.declared.records.Pledge.{Pledge}
-use Rattle.posting.specs.declared.records.Request.{Request}
-use Rattle.posting.specs.declared.records.Request.TheVariants.{Trading, PairingUp, Depositing, Withdrawing, Pledging}
+use Rattle.book.specs.Views.{sights}
+use Rattle.requests.specs.declared.records.Trade.{Trade}
+use Rattle.requests.specs.declared.records.Pairing.{Pairing}
+use Rattle.requests.specs.declared.records.Payment.{Payment}
+use Rattle.requests.specs.declared.records.Pledge.{Pledge}
+use Rattle.requests.specs.declared.records.Request.{Request}
+use Rattle.requests.specs.declared.records.Request.TheVariants.{Trading, PairingUp, Depositing, Withdrawing, Pledging}
 use Rattle.posting.specs.Postings.{trade_answer, pairing_answer, deposit_answer, withdrawal_answer, pledge_answer}
 use Rattle.posting.specs.declared.accounts.Entry.TheVariants.{Buys, Sells, Receives, Delivers, PaysIn, TakesOut, Pledges}
 use Rattle.posting.specs.declared.accounts.Entry.{Entry}
 use Rattle.posting.specs.Entries.{entered}
 use Rattle.std.specs.Prelude.{Option, Some}
-use Rattle.posting.specs.Answers.{accounts}
 use Rattle.posting.proofs.Outcomes.{trade_lower, pairing_lower}
 use Rattle.ledger.specs.Puts.{one_answer, one_after, two_answer, two_after, says_to, step_to}
 
 -- ---- requests
 
 module _ (h : Head) (xs : List ℕ) where
-  one_put : (p : Place) (a : Account) (n : ℕ) → lens.puts accounts h xs (p ∷ []) (on_zero n (a ∷ []) []) ≡ on_zero n (put_account h xs p a) xs
+  one_put : (p : Place) (a : Account) (n : ℕ) → lens.puts sights h xs (p ∷ []) (on_zero n (a ∷ []) []) ≡ on_zero n (put_account h xs p a) xs
   one_put p a zero = refl
   one_put p a (suc n) = refl
 
-  two_put : (p q : Place) (a b : Account) (n m : ℕ) → n ≡ m → lens.puts accounts h xs (p ∷ q ∷ []) (on_zero n (a ∷ b ∷ []) []) ≡ on_zero m (put_account h (put_account h xs p a) q b) xs
-  two_put p q a b n zero e = ap (λ (k : ℕ). lens.puts accounts h xs (p ∷ q ∷ []) (on_zero k (a ∷ b ∷ []) [])) e
-  two_put p q a b n (suc m) e = ap (λ (k : ℕ). lens.puts accounts h xs (p ∷ q ∷ []) (on_zero k (a ∷ b ∷ []) [])) e
+  two_put : (p q : Place) (a b : Account) (n m : ℕ) → n ≡ m → lens.puts sights h xs (p ∷ q ∷ []) (on_zero n (a ∷ b ∷ []) []) ≡ on_zero m (put_account h (put_account h xs p a) q b) xs
+  two_put p q a b n zero e = ap (λ (k : ℕ). lens.puts sights h xs (p ∷ q ∷ []) (on_zero k (a ∷ b ∷ []) [])) e
+  two_put p q a b n (suc m) e = ap (λ (k : ℕ). lens.puts sights h xs (p ∷ q ∷ []) (on_zero k (a ∷ b ∷ []) [])) e
 
   -- a request of one account
   abbrev pub OneIs : Option Request → ℕ → Entry → Type 0

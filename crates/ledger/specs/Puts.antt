@@ -5,16 +5,16 @@ use Rattle.book.specs.declared.heads.Head.{Head}
 use Rattle.book.specs.declared.accounts.Place.{Place}
 use Rattle.book.specs.Heads.{head_at}
 use Rattle.book.specs.Accounts.{account_at, put_account}
+use Rattle.book.specs.Views.{view_at, sights}
 use Rattle.validity.specs.Valid.{valid_book}
-use Rattle.posting.specs.declared.records.Request.{Request}
-use Rattle.posting.specs.declared.records.Request.TheVariants.{Trading, PairingUp, Depositing, Withdrawing, Pledging}
-use Rattle.posting.specs.Records.{places_for}
+use Rattle.requests.specs.declared.records.Request.{Request}
+use Rattle.requests.specs.declared.records.Request.TheVariants.{Trading, PairingUp, Depositing, Withdrawing, Pledging}
+use Rattle.requests.specs.Records.{places_for}
 use Rattle.folds.specs.First.{on_zero}
 use Rattle.posting.specs.Postings.{posting_of}
 use Rattle.posting.specs.declared.accounts.Entry.{Entry}
 use Rattle.posting.specs.Entries.{entry_answer, entered, lower}
-use Rattle.posting.specs.Answers.{accounts}
-use Rattle.posting.specs.Ranges.{TradeIn, PairingIn, PaymentIn, PledgeIn}
+use Rattle.requests.specs.Ranges.{TradeIn, PairingIn, PaymentIn, PledgeIn}
 
 -- the bytes are a valid book, and h is its head
 pub record IsBookOf (h : Head) (xs : List ℕ) : Type 0 where
@@ -38,12 +38,12 @@ two_after h xs p e q f =
 
 -- a request at the bytes of a valid book with the head h
 unfoldable pub says_to : Head → List ℕ → Option Request → ℕ
-says_to h xs q = (posting_of q (lens.gets accounts h xs (places_for q))).says
+says_to h xs q = (posting_of q (lens.reads view_at h xs (places_for q))).says
 
 unfoldable pub step_to : Head → List ℕ → Option Request → List ℕ
 step_to h xs q =
-    let p = posting_of q (lens.gets accounts h xs (places_for q)) in
-    lens.add_all accounts h (lens.puts accounts h xs (places_for q) p.become) p.adds
+    let p = posting_of q (lens.reads view_at h xs (places_for q)) in
+    lens.add_all sights h (lens.puts sights h xs (places_for q) p.become) p.adds
 
 -- what is known of a request that was read
 abbrev pub RequestIn : Head → Request → Type 0

@@ -5,17 +5,19 @@ ghost use Rattle.std.specs.Prelude.{◌≡◌, true, ◌<◌, Some};
 ghost use Rattle.rules.specs.Refusals.{answered};
 ghost use Rattle.book.specs.Accounts.{place, Within};
 ghost use Rattle.validity.specs.Valid.{valid_book};
-ghost use Rattle.posting.specs.Ranges.{TradeIn, PairingIn, EntryIn};
+ghost use Rattle.requests.specs.Ranges.{TradeIn, PairingIn};
+ghost use Rattle.posting.specs.Ranges.{EntryIn};
 ghost use Rattle.posting.specs.Answers.{says, step, answer, after};
-ghost use Rattle.posting.specs.declared.records.Request.TheVariants.{Trading, PairingUp};
+ghost use Rattle.requests.specs.declared.records.Request.TheVariants.{Trading, PairingUp};
 ghost use Rattle.ledger.specs.Props.{entry_is_fact};
 ghost use Rattle.ledger.specs.Puts.{IsBookOf, one_answer, one_after, two_answer, two_after, says_to, step_to, RequestIn};
 
 use book::accounts::{self, Place};
 use book::heads::Head;
 use posting::accounts::Entry;
-use posting::records::{Pairing, Request, Trade};
-use posting::{lending, postings, reading};
+use posting::postings;
+use requests::reading;
+use requests::records::{Pairing, Request, Trade};
 use rules::refusals::Refusal;
 
 // The functions below take the bytes and their head, and a clause says that they are a valid book: a type would have to hold it after the posting too, and that is `kept`, a theorem of `promises`, which stands above this crate.

@@ -23,30 +23,32 @@ use Rattle.book.specs.Books.{Book}
 use Rattle.book.proofs.Places.{head_within, contract_within, member_within, position_within, book_most}
 use Rattle.book.proofs.Rows.{Same, same_contract, same_member, same_position, ContractFits, MemberFits, PositionFits, contract_back, member_back, kind_number_back, position_back}
 use Rattle.book.proofs.Contents.{same_entry_lem, entry_back}
-use Rattle.settlement.specs.Next.{head_bytes, next_contract, next_member, next_position, contract_bytes, member_bytes, position_bytes, positions_bytes, next_bytes}
+use Rattle.tonight.specs.Given.{Given}
+use Rattle.book.specs.Whole.{head_bytes}
+use Rattle.settlement.specs.Next.{next_contract, next_member, next_position, contract_bytes, member_bytes, position_bytes, positions_bytes, next_bytes}
 use Rattle.settlement.proofs.Sizes.{contract_size_lem, member_size_lem, position_size_lem, positions_size}
 use Rattle.settlement.proofs.Parts.{head_parts, next_parts, next_length}
 
-module _ (b : Book) (ps : List ℕ) where
+module _ (b : Book) (given : Given) where
   abbrev h : Head
   h = b.head
 
   abbrev whole : List ℕ
-  whole = next_bytes b ps
+  whole = next_bytes b given
 
   -- the whole, part after part
   abbrev headed : List ℕ
   headed = sets whole 0 (head_bytes h)
 
   abbrev listed : List ℕ
-  listed = sets headed contracts_start (bytes_to (contract_bytes b ps) h.contracts)
+  listed = sets headed contracts_start (bytes_to (contract_bytes b given) h.contracts)
 
   abbrev owned : List ℕ
-  owned = sets listed (members_start h) (bytes_to (member_bytes b ps) h.members)
+  owned = sets listed (members_start h) (bytes_to (member_bytes b given) h.members)
 
   laid : sets owned (positions_start h) (bytes_to (positions_bytes b) h.members) ≡ whole
   laid =
-      next_parts b ps whole ∙ sets_over whole whole (le_refl (length whole))
+      next_parts b given whole ∙ sets_over whole whole (le_refl (length whole))
       ∙ ap (λ (l : List ℕ). whole ++ l) (drop-length whole) ∙ append-nil whole
 
   -- what stands before the positions, the members and the contracts
@@ -56,42 +58,42 @@ module _ (b : Book) (ps : List ℕ) where
 
   before_members : (off w : ℕ) → off + w ≤ members_start h → number_at whole off w ≡ number_at listed off w
   before_members off w l =
-      before_positions off w (omega arith) ∙ number_stays listed (members_start h) (bytes_to (member_bytes b ps) h.members) off w (before l)
+      before_positions off w (omega arith) ∙ number_stays listed (members_start h) (bytes_to (member_bytes b given) h.members) off w (before l)
 
   before_contracts : (off w : ℕ) → off + w ≤ contracts_start → number_at whole off w ≡ number_at headed off w
   before_contracts off w l =
-      before_members off w (omega arith) ∙ number_stays headed contracts_start (bytes_to (contract_bytes b ps) h.contracts) off w (before l)
+      before_members off w (omega arith) ∙ number_stays headed contracts_start (bytes_to (contract_bytes b given) h.contracts) off w (before l)
 
   -- ---- rows
 
-  pub next_contract_lem : (j : ℕ) → j < h.contracts → ContractFits (next_contract b ps j) → contract_at whole (contract_off j) ≡ next_contract b ps j
+  pub next_contract_lem : (j : ℕ) → j < h.contracts → ContractFits (next_contract b given j) → contract_at whole (contract_off j) ≡ next_contract b given j
   unfolding contract_off put_contract
   next_contract_lem j l f =
-      let f' = contract_bytes b ps in
+      let f' = contract_bytes b given in
       let before_row = sets headed contracts_start (bytes_to f' j) in
-      same_contract whole (put_contract before_row (contract_off j) (next_contract b ps j)) (contract_off j)
-      (λ at w q. before_members (contract_off j + at) w (omega arith) ∙ rows_back headed contracts_start contract_size f' (contract_size_lem b ps) h.contracts j l at w q)
-      ∙ contract_back before_row (contract_off j) (next_contract b ps j) (simp length-sets (omega (arith, next_length b ps, contract_within h j l))) f
+      same_contract whole (put_contract before_row (contract_off j) (next_contract b given j)) (contract_off j)
+      (λ at w q. before_members (contract_off j + at) w (omega arith) ∙ rows_back headed contracts_start contract_size f' (contract_size_lem b given) h.contracts j l at w q)
+      ∙ contract_back before_row (contract_off j) (next_contract b given j) (simp length-sets (omega (arith, next_length b given, contract_within h j l))) f
 
   module _ (m : ℕ) (l : m < h.members) where
     abbrev before_row : List ℕ
-    before_row = sets listed (members_start h) (bytes_to (member_bytes b ps) m)
+    before_row = sets listed (members_start h) (bytes_to (member_bytes b given) m)
 
     room : member_off h m + member_size ≤ length before_row
-    room = simp length-sets (omega (arith, next_length b ps, member_within h m l))
+    room = simp length-sets (omega (arith, next_length b given, member_within h m l))
 
-    member_same : Same whole (put_member before_row (member_off h m) (next_member b ps m)) (member_off h m) member_size
+    member_same : Same whole (put_member before_row (member_off h m) (next_member b given m)) (member_off h m) member_size
     unfolding member_off put_member
     member_same at w q =
-        before_positions (member_off h m + at) w (omega arith) ∙ rows_back listed (members_start h) member_size (member_bytes b ps) (member_size_lem b ps) h.members m l at w q
+        before_positions (member_off h m + at) w (omega arith) ∙ rows_back listed (members_start h) member_size (member_bytes b given) (member_size_lem b given) h.members m l at w q
 
-    pub next_member_lem : MemberFits (next_member b ps m) → member_at whole (member_off h m) ≡ next_member b ps m
+    pub next_member_lem : MemberFits (next_member b given m) → member_at whole (member_off h m) ≡ next_member b given m
     next_member_lem f =
-        same_member whole (put_member before_row (member_off h m) (next_member b ps m)) (member_off h m) member_same
-        ∙ member_back before_row (member_off h m) (next_member b ps m) room f
+        same_member whole (put_member before_row (member_off h m) (next_member b given m)) (member_off h m) member_same
+        ∙ member_back before_row (member_off h m) (next_member b given m) room f
 
     pub next_kind : kind_number_at whole (member_off h m) ≡ kind_number (b.member m).kind
-    next_kind = member_same 0 4 (omega arith) ∙ kind_number_back before_row (member_off h m) (next_member b ps m) room
+    next_kind = member_same 0 4 (omega arith) ∙ kind_number_back before_row (member_off h m) (next_member b given m) room
 
     -- a member's rows begin here
     abbrev start : ℕ
@@ -104,7 +106,7 @@ module _ (b : Book) (ps : List ℕ) where
     unfolding position_off put_position
     next_position_lem j q f =
         same_position whole (put_position kept (position_off h m j) (next_position b m j)) (position_off h m j) same
-        ∙ position_back kept (position_off h m j) (next_position b m j) (simp length-sets (omega (arith, next_length b ps, position_within h m j l q))) f
+        ∙ position_back kept (position_off h m j) (next_position b m j) (simp length-sets (omega (arith, next_length b given, position_within h m j l q))) f
       where
         kept : List ℕ
         kept = sets before_rows start (bytes_to (position_bytes b m) j)
@@ -149,7 +151,7 @@ module _ (b : Book) (ps : List ℕ) where
 
   module _ (few : h.members ≤ 32) (some : h.contracts ≤ 32) where
     count_back : (i : ℕ) → i < length (head_fields h) → let f = get_or (head_fields h) i (field 0 0 0) in number_at counted (0 + f.at) f.width ≡ f.value % 256 ^ f.width
-    count_back = row_back (head_fields h) whole 0 refl (omega (arith, next_length b ps, head_within h))
+    count_back = row_back (head_fields h) whole 0 refl (omega (arith, next_length b given, head_within h))
 
     pub next_head : head_at whole ≡ h
     unfolding head_at
@@ -164,14 +166,14 @@ module _ (b : Book) (ps : List ℕ) where
     pub next_contracts_entry : entry_at whole (entry_off 0) ≡ contracts_entry
     next_contracts_entry =
         same_entry_lem whole first (entry_off 0) (λ at w l. in_first (entry_off 0 + at) w (omega arith))
-        ∙ entry_back counted (entry_off 0) contracts_entry (simp length-sets (omega (arith, next_length b ps, head_within h))) (record { section = lit< tt; size = lit< tt; start = lit< tt })
+        ∙ entry_back counted (entry_off 0) contracts_entry (simp length-sets (omega (arith, next_length b given, head_within h))) (record { section = lit< tt; size = lit< tt; start = lit< tt })
 
     pub next_members_entry : entry_at whole (entry_off 1) ≡ members_entry h
     next_members_entry =
         same_entry_lem whole second (entry_off 1) (λ at w l. in_second (entry_off 1 + at) w (omega arith))
-        ∙ entry_back first (entry_off 1) (members_entry h) (simp length-sets (omega (arith, next_length b ps, head_within h))) (record { section = lit< tt; size = lit< tt; start = omega arith })
+        ∙ entry_back first (entry_off 1) (members_entry h) (simp length-sets (omega (arith, next_length b given, head_within h))) (record { section = lit< tt; size = lit< tt; start = omega arith })
 
     pub next_positions_entry : entry_at whole (entry_off 2) ≡ positions_entry h
     next_positions_entry =
         same_entry_lem whole third (entry_off 2) (λ at w l. in_head (entry_off 2 + at) w (omega arith))
-        ∙ entry_back second (entry_off 2) (positions_entry h) (simp length-sets (omega (arith, next_length b ps, head_within h))) (record { section = lit< tt; size = lit< tt; start = omega arith })
+        ∙ entry_back second (entry_off 2) (positions_entry h) (simp length-sets (omega (arith, next_length b given, head_within h))) (record { section = lit< tt; size = lit< tt; start = omega arith })

@@ -30,6 +30,7 @@ use Rattle.validity.specs.Totals.{Ranged, SideIn, PositionIn}
 use Rattle.validity.specs.InRange.{MemberIn, PositionIs}
 use Rattle.validity.proofs.Facts.{contract_row}
 use Rattle.validity.proofs.RowTests.{member_in}
+use Rattle.tonight.specs.Given.{Given}
 use Rattle.tonight.specs.Prices.{pair_size, tonight_at, delivery_at, none_paired, pair_tests, pair_ok, prices_ok}
 use Rattle.tonight.specs.Night.{tally_to, night_of}
 use Rattle.tonight.specs.Evening.{Evening}
@@ -51,48 +52,48 @@ position_fine p h = record {
 
 -- ---- contracts
 
-module _ (b : Book) (ps : List ℕ) (r : Ranged b) (e : prices_ok b ps ≡ true) (j : ℕ) (l : j < b.head.contracts) where
-  tonight_ok : between 1 10_000_000 (tonight_at ps j).0 ≡ true
+module _ (b : Book) (given : Given) (r : Ranged b) (e : prices_ok b given.prices ≡ true) (j : ℕ) (l : j < b.head.contracts) where
+  tonight_ok : between 1 10_000_000 (tonight_at given.prices j).0 ≡ true
   unfolding prices_ok
   tonight_ok =
       let k = b.head.contracts in
-      each (pair_tests (tonight_at ps j) (delivery_at ps j) (none_paired b j)) (all_at (pair_ok b ps) k (and_parts (eqb (length ps) (k * pair_size)) (all_to (pair_ok b ps) k) e).1 j l) 0
+      each (pair_tests (tonight_at given.prices j) (delivery_at given.prices j) (none_paired b j)) (all_at (pair_ok b given.prices) k (and_parts (eqb (length given.prices) (k * pair_size)) (all_to (pair_ok b given.prices) k) e).1 j l) 0
 
   old : (i : ℕ) → get_or (contract_tests (b.contract j)) i true ≡ true
   old = each (contract_tests (b.contract j)) (contract_row b r.rows j l)
 
-  pub contract_fine : all_of (contract_tests (next_contract b ps j)) ≡ true
+  pub contract_fine : all_of (contract_tests (next_contract b given j)) ≡ true
   contract_fine i = all_of (tonight_ok i ∷ old 1 i ∷ old 2 i ∷ old 3 i ∷ old 4 i ∷ old 5 i ∷ [])
 
 -- ---- members
 
-module _ (xs ps : List ℕ) (h : Head) (e : Evening xs ps h) (m : ℕ) (l : m < h.members) where
+module _ (xs : List ℕ) (given : Given) (h : Head) (e : Evening xs given h) (m : ℕ) (l : m < h.members) where
   abbrev b : Book
   b = book_by h xs
 
   abbrev row : Member
   row = b.member m
 
-  margin_up : Amount (10 ^ 16) (night_of b ps m).figures.margin
+  margin_up : Amount (10 ^ 16) (night_of b given m).figures.margin
   unfolding night_of
-  margin_up = amount_more (night_of b ps m).figures.margin (lit≤ tt) (tally_few xs ps h e m l h.contracts (le_refl h.contracts)).margin
+  margin_up = amount_more (night_of b given m).figures.margin (lit≤ tt) (tally_few xs given h e m l h.contracts (le_refl h.contracts)).margin
 
-  usable_up : Amount (10 ^ 15) (night_of b ps m).figures.usable
+  usable_up : Amount (10 ^ 15) (night_of b given m).figures.usable
   unfolding night_of
   usable_up =
-      let t = tally_to b ps m h.contracts in
+      let t = tally_to b given m h.contracts in
       let i = member_in b e.ranged m l in
-      amount_more {A = 8 * 10 ^ 14} (night_of b ps m).figures.usable (lit≤ tt)
+      amount_more {A = 8 * 10 ^ 14} (night_of b given m).figures.usable (lit≤ tt)
       (usable_in (discounted_of row.securities.market row.securities.discount) (money_tonight_of (money_of row.figures) t.profit row.day.deposits row.day.withdrawals t.fee)
       (discounted_in row.securities.market row.securities.discount i.market i.discount))
 
   -- with tonight's reserve in its range: refusal 9
-  pub member_fine : about_zero (10 ^ 15) (night_of b ps m).figures.reserve ≡ true → MemberIn (next_member b ps m)
+  pub member_fine : about_zero (10 ^ 15) (night_of b given m).figures.reserve ≡ true → MemberIn (next_member b given m)
   member_fine reserve =
       let i = member_in b e.ranged m l in
       record {
         accepted = zero-le;
-        reserve = record { within = leb-true (nat_abs (night_of b ps m).figures.reserve.0) (10 ^ 15) reserve };
+        reserve = record { within = leb-true (nat_abs (night_of b given m).figures.reserve.0) (10 ^ 15) reserve };
         margin = margin_up;
         usable = usable_up;
         market = i.market;

@@ -34,6 +34,7 @@ use Rattle.validity.proofs.Facts as facts
 use Rattle.validity.proofs.RowTests as tests
 use Rattle.validity.proofs.Fits.{contract_fits, member_fits, position_fits}
 use Rattle.validity.proofs.AsFacts.{Rows, valid_of}
+use Rattle.tonight.specs.Given.{Given}
 use Rattle.tonight.specs.Night.{night_of, reserves_ok}
 use Rattle.tonight.specs.Evening.{Evening}
 use Rattle.settlement.specs.Next.{next_contract, next_member, next_position, next_bytes}
@@ -49,7 +50,7 @@ entry_itself : (e : Entry) → same_entry e e ≡ true
 entry_itself e i = all_of (eq-eqb e.section e.section refl i ∷ eq-eqb e.size e.size refl i ∷ eq-eqb e.start e.start refl i ∷ [])
 
 -- of an evening that is answered 0, `lent` being the room for the next book
-module _ (xs ps lent results : List ℕ) (e : settle_answer xs ps (length lent) (length results) ≡ 0) where
+module _ (xs : List ℕ) (given : Given) (lent results : List ℕ) (e : settle_answer xs given (length lent) (length results) ≡ 0) where
   abbrev h : Head
   h = head_at xs
 
@@ -57,17 +58,17 @@ module _ (xs ps lent results : List ℕ) (e : settle_answer xs ps (length lent) 
   b = book_at xs
 
   abbrev ys : List ℕ
-  ys = next_bytes b ps
+  ys = next_bytes b given
 
   -- the next book, by the old head
   abbrev next : Book
   next = book_by h ys
 
   valid : valid_book xs ≡ true
-  valid = was_valid xs ps lent results e
+  valid = was_valid xs given lent results e
 
-  known : Evening xs ps h
-  known = evening xs ps lent results e
+  known : Evening xs given h
+  known = evening xs given lent results e
 
   -- ---- its head
 
@@ -76,11 +77,11 @@ module _ (xs ps lent results : List ℕ) (e : settle_answer xs ps (length lent) 
   contents =
       let few = known.shaped.members in
       let some = known.shaped.contracts in
-      rw (next_contracts_entry b ps few some, next_members_entry b ps few some, next_positions_entry b ps few some)
+      rw (next_contracts_entry b given few some, next_members_entry b given few some, next_positions_entry b given few some)
       (λ i. all_of (entry_itself contracts_entry i ∷ entry_itself (members_entry h) i ∷ entry_itself (positions_entry h) i ∷ []))
 
   head_is : head_at ys ≡ h
-  head_is = next_head b ps known.shaped.members known.shaped.contracts
+  head_is = next_head b given known.shaped.members known.shaped.contracts
 
   counts : counts_ok h ≡ true
   unfolding head_ok
@@ -89,8 +90,8 @@ module _ (xs ps lent results : List ℕ) (e : settle_answer xs ps (length lent) 
   head_fine : head_ok ys ≡ true
   unfolding head_ok
   head_fine =
-      let total = next_total b ps known.shaped.members known.shaped.contracts in
-      let exact = next_length b ps in
+      let total = next_total b given known.shaped.members known.shaped.contracts in
+      let exact = next_length b given in
       let room = le-leb head_size (length ys) (omega (arith, exact, head_within h)) in
       let same = eq-eqb (total_of ys) (book_length (head_at ys)) (total ∙ ap book_length (sym head_is)) in
       let most = le-leb (total_of ys) longest_book (omega (arith, total, book_most h known.shaped.members known.shaped.contracts)) in
@@ -99,27 +100,27 @@ module _ (xs ps lent results : List ℕ) (e : settle_answer xs ps (length lent) 
 
   -- ---- its rows
 
-  reserve_ok : (m : ℕ) → m < h.members → about_zero (10 ^ 15) (night_of b ps m).figures.reserve ≡ true
+  reserve_ok : (m : ℕ) → m < h.members → about_zero (10 ^ 15) (night_of b given m).figures.reserve ≡ true
   unfolding reserves_ok
-  reserve_ok = all_at (λ (m : ℕ). about_zero (10 ^ 15) (night_of b ps m).figures.reserve) h.members (passed xs ps lent results e).reserves
+  reserve_ok = all_at (λ (m : ℕ). about_zero (10 ^ 15) (night_of b given m).figures.reserve) h.members (passed xs given lent results e).reserves
 
-  contract_in_lem : (j : ℕ) → j < h.contracts → all_of (contract_tests (next_contract b ps j)) ≡ true
-  contract_in_lem j l = contract_fine b ps known.ranged (passed xs ps lent results e).prices j l
+  contract_in_lem : (j : ℕ) → j < h.contracts → all_of (contract_tests (next_contract b given j)) ≡ true
+  contract_in_lem j l = contract_fine b given known.ranged (passed xs given lent results e).prices j l
 
-  member_in : (m : ℕ) → m < h.members → MemberIn (next_member b ps m)
-  member_in m l = member_fine xs ps h known m l (reserve_ok m l)
+  member_in : (m : ℕ) → m < h.members → MemberIn (next_member b given m)
+  member_in m l = member_fine xs given h known m l (reserve_ok m l)
 
   position_in : (m j : ℕ) → m < h.members → j < h.contracts → PositionIs (next_position b m j)
   position_in m j l q = position_fine (b.position m j) (facts.position_in b known.ranged m j l q)
 
-  contract_is : (j : ℕ) → j < h.contracts → next.contract j ≡ next_contract b ps j
-  contract_is j l = next_contract_lem b ps j l (contract_fits (next_contract b ps j) (tests.contract_is (next_contract b ps j) (contract_in_lem j l)))
+  contract_is : (j : ℕ) → j < h.contracts → next.contract j ≡ next_contract b given j
+  contract_is j l = next_contract_lem b given j l (contract_fits (next_contract b given j) (tests.contract_is (next_contract b given j) (contract_in_lem j l)))
 
-  member_is : (m : ℕ) → m < h.members → next.member m ≡ next_member b ps m
-  member_is m l = next_member_lem b ps m l (member_fits (next_member b ps m) (member_in m l))
+  member_is : (m : ℕ) → m < h.members → next.member m ≡ next_member b given m
+  member_is m l = next_member_lem b given m l (member_fits (next_member b given m) (member_in m l))
 
   position_is : (m j : ℕ) → m < h.members → j < h.contracts → next.position m j ≡ next_position b m j
-  position_is m j l q = next_position_lem b ps m l j q (position_fits (next_position b m j) (position_in m j l q) zero-le)
+  position_is m j l q = next_position_lem b given m l j q (position_fits (next_position b m j) (position_in m j l q) zero-le)
 
   -- nobody has traded
   traded_none : (m : ℕ) → m < h.members → traded_of next m ≤ 0
@@ -129,7 +130,7 @@ module _ (xs ps lent results : List ℕ) (e : settle_answer xs ps (length lent) 
   rows_fine : Rows h next
   rows_fine = record {
     contracts = λ j l. ap (λ (c : Contract). all_of (contract_tests c)) (contract_is j l) ∙ contract_in_lem j l;
-    kinds = λ m l. ap (between 1 2) (next_kind b ps m l) ∙ kind_known (b.member m).kind;
+    kinds = λ m l. ap (between 1 2) (next_kind b given m l) ∙ kind_known (b.member m).kind;
     members = λ m l. subst MemberIn (sym (member_is m l)) (member_in m l);
     positions = λ m j l q. subst PositionIs (sym (position_is m j l q)) (position_in m j l q);
     traded = λ m l. omega (arith, traded_none m l);
@@ -181,8 +182,8 @@ module _ (xs ps lent results : List ℕ) (e : settle_answer xs ps (length lent) 
       (ap (λ (x : Head). fresh_rows (book_by x ys)) head_is ∙ next_fresh)
 
 -- an evening that is answered 0 leaves an opening book in the room that was lent for it
-pub next_morning : (xs ps next results : List ℕ) → settle_answer xs ps (length next) (length results) ≡ 0 → opening_book (take (book_length (head_at xs)) (next_after xs ps next results)) ≡ true
-next_morning xs ps next results e =
-    ap (λ (l : List ℕ). opening_book (take (book_length (head_at xs)) l)) (next_by xs ps next results 0 e)
-    ∙ ap opening_book (take_at (next_bytes (book_at xs) ps) _ (book_length (head_at xs)) (next_length (book_at xs) ps))
-    ∙ next_opens xs ps next results e
+pub next_morning : (xs : List ℕ) (given : Given) (next results : List ℕ) → settle_answer xs given (length next) (length results) ≡ 0 → opening_book (take (book_length (head_at xs)) (next_after xs given next results)) ≡ true
+next_morning xs given next results e =
+    ap (λ (l : List ℕ). opening_book (take (book_length (head_at xs)) l)) (next_by xs given next results 0 e)
+    ∙ ap opening_book (take_at (next_bytes (book_at xs) given) _ (book_length (head_at xs)) (next_length (book_at xs) given))
+    ∙ next_opens xs given next results e

@@ -1,2 +1,3 @@
 -- 01, Case E, as bytes.
+pub mod SmallRows
 pub mod CaseE

@@ -28,9 +28,9 @@ laws = record {
   head_add = λ h s n. refl;
   sound_put = λ h s m x v. refl;
   sound_add = λ h s n v. refl;
-  get_put = λ h s m m' x f. get_or-set_other s.accounts m m' x 0 f;
+  see_put = λ h s m m' x f. get_or-set_other s.accounts m m' x 0 f;
   put_put = λ h s m m' x x' f i. record { accounts = set_comm s.accounts m m' x x' (λ e. f (sym e)) i; moved = s.moved };
-  get_add = λ h s n m w. refl;
+  see_add = λ h s n m w. refl;
   put_add = λ h s n m x w. refl;
   add_add = λ h s n n' v i. record { accounts = s.accounts; moved = swapped s.moved n n' i };
 }

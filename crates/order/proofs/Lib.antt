@@ -5,3 +5,4 @@ pub mod Theorem
 pub mod Locality
 pub mod Swapped
 pub mod Example
+pub mod Makes

@@ -1,10 +1,10 @@
--- A posting that sees and changes only the places its record names commutes with every posting whose places are far from those. For any lens and any rules.
+-- A posting that sees views of the places its record names, and puts back those places alone, commutes with every posting whose places are far from those. For any lens and any rules.
 use mathlib.Core.Path.{◌≡◌, refl, sym, ap, ap₂, ◌∙◌}
 use mathlib.Core.List.{List, [], ◌∷◌, Memᴰ}
 use Rattle.order.specs.Order.{Commutes}
-use Rattle.order.specs.Lens.{Posting, Lens, Laws, gets, puts, add_all, posting_by, after_by, answer, after}
+use Rattle.order.specs.Lens.{Posting, Lens, Laws, reads, puts, add_all, posting_by, after_by, answer, after}
 
-module _ {H S P X C : Type 0} (lens : Lens H S P X C)
+module _ {H S P W X C : Type 0} (lens : Lens H S P W X C)
     (Sound : H → S → Type 0) (Within : H → P → Type 0) (Far : H → P → P → Type 0) (l : Laws lens Sound Within Far) where
   head_puts : (h : H) (s : S) (ps : List P) (xs : List X) → lens.head (puts lens h s ps xs) ≡ lens.head s
   head_puts h s [] xs = refl
@@ -20,14 +20,14 @@ module _ {H S P X C : Type 0} (lens : Lens H S P X C)
   sound_puts h s (p ∷ ps) [] v = v
   sound_puts h s (p ∷ ps) (x ∷ xs) v = sound_puts h (lens.put h s p x) ps xs (l.sound_put h s p x v)
 
-  get_puts : (h : H) (s : S) (ps : List P) (xs : List X) (q : P) → ((p : P) → Memᴰ p ps → Far h p q) → lens.get h (puts lens h s ps xs) q ≡ lens.get h s q
-  get_puts h s [] xs q f = refl
-  get_puts h s (p ∷ ps) [] q f = refl
-  get_puts h s (p ∷ ps) (x ∷ xs) q f = get_puts h (lens.put h s p x) ps xs q (λ p' k. f p' (Memᴰ.tail k)) ∙ l.get_put h s p q x (f p (Memᴰ.head refl))
+  see_puts : (h : H) (s : S) (ps : List P) (xs : List X) (q : P) → ((p : P) → Memᴰ p ps → Far h p q) → lens.see h (puts lens h s ps xs) q ≡ lens.see h s q
+  see_puts h s [] xs q f = refl
+  see_puts h s (p ∷ ps) [] q f = refl
+  see_puts h s (p ∷ ps) (x ∷ xs) q f = see_puts h (lens.put h s p x) ps xs q (λ p' k. f p' (Memᴰ.tail k)) ∙ l.see_put h s p q x (f p (Memᴰ.head refl))
 
-  get_adds : (h : H) (s : S) (cs : List C) (q : P) → Within h q → lens.get h (add_all lens h s cs) q ≡ lens.get h s q
-  get_adds h s [] q w = refl
-  get_adds h s (c ∷ cs) q w = get_adds h (lens.add h s c) cs q w ∙ l.get_add h s c q w
+  see_adds : (h : H) (s : S) (cs : List C) (q : P) → Within h q → lens.see h (add_all lens h s cs) q ≡ lens.see h s q
+  see_adds h s [] q w = refl
+  see_adds h s (c ∷ cs) q w = see_adds h (lens.add h s c) cs q w ∙ l.see_add h s c q w
 
   put_puts : (h : H) (s : S) (ps : List P) (xs : List X) (q : P) (y : X) → ((p : P) → Memᴰ p ps → Far h p q) → lens.put h (puts lens h s ps xs) q y ≡ puts lens h (lens.put h s q y) ps xs
   put_puts h s [] xs q y f = refl
@@ -62,11 +62,11 @@ module _ {H S P X C : Type 0} (lens : Lens H S P X C)
   adds_adds h s cs [] v = refl
   adds_adds h s cs (d ∷ ds) v = ap (λ (t : S). add_all lens h t ds) (add_adds h s cs d v) ∙ adds_adds h (lens.add h s d) cs ds (l.sound_add h s d v)
 
-  gets_same : (h : H) (s t : S) (qs : List P) → ((q : P) → Memᴰ q qs → lens.get h t q ≡ lens.get h s q) → gets lens h t qs ≡ gets lens h s qs
-  gets_same h s t [] f = refl
-  gets_same h s t (q ∷ qs) f = ap₂ {C = List X} (λ a l. a ∷ l) (f q (Memᴰ.head refl)) (gets_same h s t qs (λ q' k. f q' (Memᴰ.tail k)))
+  reads_same : (h : H) (s t : S) (qs : List P) → ((q : P) → Memᴰ q qs → lens.see h t q ≡ lens.see h s q) → reads lens.see h t qs ≡ reads lens.see h s qs
+  reads_same h s t [] f = refl
+  reads_same h s t (q ∷ qs) f = ap₂ {C = List W} (λ a l. a ∷ l) (f q (Memᴰ.head refl)) (reads_same h s t qs (λ q' k. f q' (Memᴰ.tail k)))
 
-module _ {H S P X C R A : Type 0} (lens : Lens H S P X C) (places : H → R → List P) (posting : H → R → List X → Posting X A C) where
+module _ {H S P W X C R A : Type 0} (lens : Lens H S P W X C) (places : H → R → List P) (posting : H → R → List W → Posting X A C) where
   module _ (Sound : H → S → Type 0) (Within : H → P → Type 0) (Far : H → P → P → Type 0) (l : Laws lens Sound Within Far) where
     pub head_after : (s : S) (r : R) → lens.head (after lens places posting s r) ≡ lens.head s
     head_after s r =
@@ -74,16 +74,16 @@ module _ {H S P X C R A : Type 0} (lens : Lens H S P X C) (places : H → R → 
         ∙ head_puts lens Sound Within Far l (lens.head s) s (places (lens.head s) r) (posting_by lens places posting (lens.head s) s r).become
 
     -- a place far from those named, and from which the counters are apart, is as it was
-    pub get_after : (h : H) (s : S) (r : R) (p : Posting X A C) (q : P) → Within h q → ((p : P) → Memᴰ p (places h r) → Far h p q) → lens.get h (after_by lens places posting h s r p) q ≡ lens.get h s q
-    get_after h s r p q w f =
-        get_adds lens Sound Within Far l h (puts lens h s (places h r) p.become) p.adds q w
-        ∙ get_puts lens Sound Within Far l h s (places h r) p.become q f
+    pub see_after : (h : H) (s : S) (r : R) (p : Posting X A C) (q : P) → Within h q → ((p : P) → Memᴰ p (places h r) → Far h p q) → lens.see h (after_by lens places posting h s r p) q ≡ lens.see h s q
+    see_after h s r p q w f =
+        see_adds lens Sound Within Far l h (puts lens h s (places h r) p.become) p.adds q w
+        ∙ see_puts lens Sound Within Far l h s (places h r) p.become q f
 
     module _ (h : H) (within : (r : R) (p : P) → Memᴰ p (places h r) → Within h p)
         (r r' : R) (far : (p q : P) → Memᴰ p (places h r) → Memᴰ q (places h r') → Far h p q) where
       same_post : (s : S) (p : Posting X A C) → posting_by lens places posting h (after_by lens places posting h s r p) r' ≡ posting_by lens places posting h s r'
-      same_post s p = ap (posting h r') (gets_same lens Sound Within Far l h s (after_by lens places posting h s r p) (places h r')
-          (λ q k. get_after h s r p q (within r' q k) (λ p' k'. far p' q k' k)))
+      same_post s p = ap (posting h r') (reads_same lens Sound Within Far l h s (after_by lens places posting h s r p) (places h r')
+          (λ q k. see_after h s r p q (within r' q k) (λ p' k'. far p' q k' k)))
 
       put_both : (s : S) (p p' : Posting X A C) → Sound h s → after_by lens places posting h (after_by lens places posting h s r p) r' p' ≡ after_by lens places posting h (after_by lens places posting h s r' p') r p
       put_both s p p' v =

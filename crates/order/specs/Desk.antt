@@ -30,10 +30,10 @@ rules h (transfer giver taker amount) (x ∷ []) = Refused 1
 rules h (transfer giver taker amount) (x ∷ y ∷ xs) = cond (leb amount x) (Done 0 ((x - amount) ∷ (y + amount) ∷ []) amount) (Refused 6)
 
 -- a desk has nothing that says where its accounts stand: its head is 0
-abbrev pub desk : Lens ℕ Desk ℕ ℕ ℕ
+abbrev pub desk : Lens ℕ Desk ℕ ℕ ℕ ℕ
 desk = record {
   head = λ s. 0;
-  get = λ h s m. get_or s.accounts m 0;
+  see = λ h s m. get_or s.accounts m 0;
   put = λ h s m x. record { accounts = set s.accounts m x; moved = s.moved };
   add = λ h s amount. record { accounts = s.accounts; moved = s.moved + amount };
 }

@@ -1,5 +1,3 @@
 pub mod Sides
+pub mod Rising
 pub mod Outcomes
-pub mod Thin
-pub mod Lender
-pub mod Requests

@@ -2,12 +2,13 @@
 use Rattle.std.specs.Prelude.{ℕ, cond, List, [], ◌∷◌, leb}
 use Rattle.folds.specs.First.{Rule, ◌gives◌, first_of, on_zero}
 use Rattle.book.specs.declared.accounts.Account.{Account}
-use Rattle.posting.specs.Records.{Mark, Trade, Pairing}
+use Rattle.requests.specs.declared.records.Mark.{Mark}
+use Rattle.requests.specs.declared.records.Trade.{Trade}
+use Rattle.requests.specs.declared.records.Pairing.{Pairing}
 use Rattle.posting.specs.Fills.{Party, Buyer, Seller, Way, Long, Short}
 use Rattle.posting.specs.Postings.{traded, paired_on, deposited, withdrawn, pledged, full, barred, fewer, beyond, scarce, deposit_answer, withdrawal_answer, pledge_answer}
 pub use Rattle.posting.specs.declared.accounts.Entry.{Entry}
 pub use Rattle.posting.specs.declared.accounts.Entry.TheVariants.{Buys, Sells, Receives, Delivers, PaysIn, TakesOut, Pledges}
-pub use Rattle.posting.specs.declared.accounts.Posted.{Posted}
 
 -- 2 to 5 for one side of a trade
 abbrev pub side_rules : Party → Mark → Trade → Account → List Rule
@@ -40,14 +41,6 @@ entered (Delivers p) a = paired_on Short p a
 entered (PaysIn p) a = deposited p a
 entered (TakesOut p) a = withdrawn p a
 entered (Pledges p) a = pledged p a
-
--- the account after the entry; as it stood, where a rule refuses
-abbrev pub account_after : Entry → Account → Account
-account_after e a = on_zero (entry_answer e a) (entered e a) a
-
--- 01's number, and the account as it stands then
-abbrev pub posted_of : Account → Entry → Posted
-posted_of a e = record { answer = entry_answer e a; account = account_after e a }
 
 -- the first refusal of two accounts, by rising number
 abbrev pub lower : ℕ → ℕ → ℕ

@@ -7,7 +7,8 @@ use Rattle.rules.specs.Units.{fen, lots}
 use Rattle.book.specs.declared.positions.Side.{Side}
 use Rattle.book.specs.declared.positions.Position.{Position}
 use Rattle.book.specs.Positions.{held_of}
-use Rattle.posting.specs.Records.{Mark, Opens, ClosesOld, ClosesNew}
+use Rattle.requests.specs.declared.records.Mark.{Mark}
+use Rattle.requests.specs.declared.records.Mark.TheVariants.{Opens, ClosesOld, ClosesNew}
 pub use Rattle.posting.specs.declared.fills.Way.{Way}
 pub use Rattle.posting.specs.declared.fills.Way.TheVariants.{Long, Short}
 pub use Rattle.posting.specs.declared.fills.Party.{Party}

@@ -1,6 +1,4 @@
 -- 01, Day records, and Refusal numbers 1 to 7 and 10.
-pub mod Kinds
-pub mod Records
 pub mod Fills
 pub mod Postings
 pub mod Entries

@@ -7,22 +7,28 @@ use Rattle.rules.specs.declared.units.Fen.{Fen}
 use Rattle.rules.specs.Units.{fen}
 use Rattle.rules.specs.Members.{minimum_of}
 use Rattle.rules.specs.Money.{room_left_of}
-use Rattle.book.specs.declared.members.Securities.{Securities}
-use Rattle.book.specs.declared.members.Day.{Day}
 use Rattle.book.specs.declared.members.Member.{Member}
 use Rattle.book.specs.declared.positions.Position.{Position}
 use Rattle.book.specs.declared.accounts.Account.{Account}
-use Rattle.posting.specs.Records.{Mark, Opens, ClosesOld, ClosesNew, Trade, Pairing, Payment, Pledge, Request, Trading, PairingUp, Depositing, Withdrawing, Pledging}
+use Rattle.book.specs.Views.{View, Count}
+use Rattle.requests.specs.declared.records.Mark.{Mark}
+use Rattle.requests.specs.declared.records.Trade.{Trade}
+use Rattle.requests.specs.declared.records.Pairing.{Pairing}
+use Rattle.requests.specs.declared.records.Payment.{Payment}
+use Rattle.requests.specs.declared.records.Pledge.{Pledge}
+use Rattle.requests.specs.declared.records.Request.{Request}
+use Rattle.requests.specs.declared.records.Mark.TheVariants.{Opens, ClosesOld, ClosesNew}
+use Rattle.requests.specs.declared.records.Request.TheVariants.{Trading, PairingUp, Depositing, Withdrawing, Pledging}
 use Rattle.posting.specs.Fills.{Party, Buyer, Seller, Way, Long, Short, way_of, side_on, with_side, paired_up, dealt, enough, roomy, free}
 
 -- ---- the accounts after an accepted record
 
 -- a member's row after one more accepted record
-abbrev pub counted : Securities → Day → Member → Member
-counted securities day r = record { kind = r.kind; accepted = r.accepted + 1; figures = r.figures; securities = securities; day = day }
+abbrev pub counted : Member → Member
+counted r = record r { accepted = r.accepted + 1 }
 
 abbrev pub moved : Position → Account → Account
-moved p a = record { member = counted a.member.securities a.member.day a.member; position = p }
+moved p a = record { member = counted a.member; position = p }
 
 abbrev pub traded : Party → Mark → Trade → Account → Account
 traded party mark t a = moved (dealt party mark t.price t.lots a.position) a
@@ -32,20 +38,18 @@ abbrev pub paired_on : Way → Pairing → Account → Account
 paired_on way p a = moved (with_side way (paired_up p.lots.0 (side_on way a.position)) a.position) a
 
 abbrev pub deposited : Payment → Account → Account
-deposited p a = record {
-  member = counted a.member.securities (record { deposits = fen (a.member.day.deposits.0 +ℤ p.amount.0); withdrawals = a.member.day.withdrawals }) a.member;
-  position = a.position;
-}
+deposited p a =
+    let r = a.member in
+    record a { member = counted (record r { day = record r.day { deposits = fen (r.day.deposits.0 +ℤ p.amount.0) } }) }
 
 abbrev pub withdrawn : Payment → Account → Account
-withdrawn p a = record {
-  member = counted a.member.securities (record { deposits = a.member.day.deposits; withdrawals = fen (a.member.day.withdrawals.0 +ℤ p.amount.0) }) a.member;
-  position = a.position;
-}
+withdrawn p a =
+    let r = a.member in
+    record a { member = counted (record r { day = record r.day { withdrawals = fen (r.day.withdrawals.0 +ℤ p.amount.0) } }) }
 
 -- replaces both
 abbrev pub pledged : Pledge → Account → Account
-pledged p a = record { member = counted (record { market = p.market; discount = p.discount }) a.member.day a.member; position = a.position }
+pledged p a = record a { member = counted (record a.member { securities = record { market = p.market; discount = p.discount } }) }
 
 -- ---- refusals
 
@@ -118,21 +122,21 @@ pledge_answer p a = first_of (pledge_rules p a)
 -- ---- the outcome: 01's number, and the accounts where it is 0
 
 -- a refusal makes nothing of the accounts
-abbrev pub outcome : ℕ → List Account → Posting Account ℕ ℕ
+abbrev pub outcome : ℕ → List Account → Posting Account ℕ Count
 outcome n become = record { says = n; become = on_zero n become []; adds = [] }
 
--- what a request asks of the accounts named, in the order of the names
-abbrev pub posting_of : Option Request → List Account → Posting Account ℕ ℕ
+-- what a request asks, from the views of the places named, in the order of the names
+abbrev pub posting_of : Option Request → List View → Posting Account ℕ Count
 posting_of (Some (Trading t)) [] = outcome 1 []
-posting_of (Some (Trading t)) (a ∷ []) = outcome 1 []
-posting_of (Some (Trading t)) (a ∷ b ∷ l) = outcome (trade_answer t a b) (traded Buyer t.buying t a ∷ traded Seller t.selling t b ∷ [])
+posting_of (Some (Trading t)) (v ∷ []) = outcome 1 []
+posting_of (Some (Trading t)) (v ∷ w ∷ l) = outcome (trade_answer t v.account w.account) (traded Buyer t.buying t v.account ∷ traded Seller t.selling t w.account ∷ [])
 posting_of (Some (PairingUp p)) [] = outcome 1 []
-posting_of (Some (PairingUp p)) (a ∷ []) = outcome 1 []
-posting_of (Some (PairingUp p)) (a ∷ b ∷ l) = outcome (pairing_answer p a b) (paired_on Long p a ∷ paired_on Short p b ∷ [])
+posting_of (Some (PairingUp p)) (v ∷ []) = outcome 1 []
+posting_of (Some (PairingUp p)) (v ∷ w ∷ l) = outcome (pairing_answer p v.account w.account) (paired_on Long p v.account ∷ paired_on Short p w.account ∷ [])
 posting_of (Some (Depositing p)) [] = outcome 1 []
-posting_of (Some (Depositing p)) (a ∷ l) = outcome (deposit_answer p a) (deposited p a ∷ [])
+posting_of (Some (Depositing p)) (v ∷ l) = outcome (deposit_answer p v.account) (deposited p v.account ∷ [])
 posting_of (Some (Withdrawing p)) [] = outcome 1 []
-posting_of (Some (Withdrawing p)) (a ∷ l) = outcome (withdrawal_answer p a) (withdrawn p a ∷ [])
+posting_of (Some (Withdrawing p)) (v ∷ l) = outcome (withdrawal_answer p v.account) (withdrawn p v.account ∷ [])
 posting_of (Some (Pledging p)) [] = outcome 1 []
-posting_of (Some (Pledging p)) (a ∷ l) = outcome (pledge_answer p a) (pledged p a ∷ [])
+posting_of (Some (Pledging p)) (v ∷ l) = outcome (pledge_answer p v.account) (pledged p v.account ∷ [])
 posting_of None l = outcome 1 []

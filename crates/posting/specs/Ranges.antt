@@ -1,13 +1,11 @@
 -- 01, The book and Day records: within what ranges the records and the accounts of a valid book are posted.
 use Prim.{Unit}
-use Rattle.std.specs.Prelude.{◌*◌, ◌^◌, ◌≤◌, ◌<◌, ◌≢◌}
+use Rattle.std.specs.Prelude.{◌*◌, ◌^◌, ◌≤◌}
 use Rattle.numbers.specs.Range.{In}
 use Rattle.rules.specs.Ranges.{FiguresIn}
-use Rattle.book.specs.declared.heads.Head.{Head}
 use Rattle.book.specs.declared.positions.Position.{Position}
 use Rattle.book.specs.declared.accounts.Account.{Account}
 use Rattle.validity.specs.Totals.{SideIn}
-use Rattle.posting.specs.Records.{Trade, Pairing, Payment, Pledge}
 use Rattle.posting.specs.Entries.{Entry, Buys, Sells, Receives, Delivers, PaysIn, TakesOut, Pledges}
 
 -- a position of a valid book
@@ -25,32 +23,7 @@ pub record AccountIn (a : Account) : Type 0 where
   pub withdrawals : In (2 * 10 ^ 16) a.member.day.withdrawals.0
   pub position : DealtIn a.position
 
--- a record that is not refused 1
-pub record TradeIn (h : Head) (t : Trade) : Type 0 where
-  pub contract : t.contract < h.contracts
-  pub buyer : t.buyer < h.members
-  pub seller : t.seller < h.members
-  pub differ : t.buyer ≢ t.seller
-  pub price : t.price.0 ≤ 10_000_000
-  pub lots : t.lots.0 ≤ 10_000
-
-pub record PairingIn (h : Head) (p : Pairing) : Type 0 where
-  pub contract : p.contract < h.contracts
-  pub buyer : p.buyer < h.members
-  pub seller : p.seller < h.members
-  pub differ : p.buyer ≢ p.seller
-  pub lots : p.lots.0 ≤ 10_000
-
-pub record PaymentIn (h : Head) (p : Payment) : Type 0 where
-  pub member : p.member < h.members
-  pub amount : In (10 ^ 12) p.amount.0
-
-pub record PledgeIn (h : Head) (p : Pledge) : Type 0 where
-  pub member : p.member < h.members
-  pub market : In (10 ^ 15) p.market.0
-  pub discount : p.discount ≤ 8_000
-
--- what is known of an entry of such a record
+-- what is known of an entry of a record that is not refused 1
 abbrev pub EntryIn : Entry → Type 0
 EntryIn (Buys t) = (t.price.0 ≤ 10_000_000) × (t.lots.0 ≤ 10_000)
 EntryIn (Sells t) = (t.price.0 ≤ 10_000_000) × (t.lots.0 ≤ 10_000)

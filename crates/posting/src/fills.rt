@@ -3,8 +3,8 @@ ghost use Rattle.std.specs.Prelude.{◌≡◌, true, ◌*◌, ◌^◌, ◌≤◌
 ghost use Rattle.numbers.specs.Range.{In};
 ghost use Rattle.validity.specs.Totals.{SideIn};
 
-use crate::records::Mark;
 use book::positions::{Position, Side};
+use requests::records::Mark;
 use rules::units::{Fen, Lots, Price};
 use validity::sides::held;
 

@@ -9,10 +9,10 @@ ghost use Rattle.posting.specs.Ranges.{AccountIn, EntryIn, PostedIn};
 
 use crate::accounts::Entry;
 use crate::fills::{self, Fill, Party, Way};
-use crate::records::{Mark, Pairing, Payment, Pledge, Trade};
 use book::accounts::Account;
 use book::members::{Day, Member, Securities};
 use book::positions::Position;
+use requests::records::{Mark, Pairing, Payment, Pledge, Trade};
 use rules::refusals::Refusal;
 use rules::units::{Fen, Lots};
 
@@ -24,14 +24,12 @@ fn refuse(test: bool, refusal: Refusal) -> Result<(), Refusal>
 }
 
 // One more accepted record.
-fn counted(m: Member, securities: Securities, day: Day) -> Member
+fn counted(m: Member) -> Member
     requires { m.accepted ≤ 20_000 }
-    ensures { result ≡ counted securities day m }
+    ensures { result ≡ counted m }
 {
     Member {
         accepted: m.accepted + 1,
-        securities,
-        day,
         ..m
     }
 }
@@ -141,18 +139,19 @@ impl ValidAccount {
     fn moved(self, p: Position) -> Account
         ensures { result ≡ moved p self.account }
     {
-        let member = self.account.member;
         Account {
-            member: counted(member, member.securities, member.day),
+            member: counted(self.account.member),
             position: p,
         }
     }
 
-    fn kept(self, securities: Securities, day: Day) -> Account
-        ensures { (result.member ≡ counted securities day self.account.member) × (result.position ≡ self.account.position) }
+    // The position as it stands.
+    fn with_member(self, m: Member) -> Account
+        requires { m.accepted ≤ 20_000 }
+        ensures { (result.member ≡ counted m) × (result.position ≡ self.account.position) }
     {
         Account {
-            member: counted(self.account.member, securities, day),
+            member: counted(m),
             position: self.account.position,
         }
     }
@@ -177,26 +176,26 @@ impl ValidAccount {
         requires { In (10 ^ 12) p.amount.0 }
         ensures { result ≡ deposited p self.account }
     {
-        let Member {
-            securities,
-            day,
-            ..
-        } = self.account.member;
-        let deposits = Fen(day.deposits.0 + p.amount.0);
-        self.kept(securities, Day { deposits, ..day })
+        let member = self.account.member;
+        let deposits = Fen(member.day.deposits.0 + p.amount.0);
+        let day = Day {
+            deposits,
+            ..member.day
+        };
+        self.with_member(Member { day, ..member })
     }
 
     fn withdrawn(self, p: Payment) -> Account
         requires { In (10 ^ 12) p.amount.0 }
         ensures { result ≡ withdrawn p self.account }
     {
-        let Member {
-            securities,
-            day,
-            ..
-        } = self.account.member;
-        let withdrawals = Fen(day.withdrawals.0 + p.amount.0);
-        self.kept(securities, Day { withdrawals, ..day })
+        let member = self.account.member;
+        let withdrawals = Fen(member.day.withdrawals.0 + p.amount.0);
+        let day = Day {
+            withdrawals,
+            ..member.day
+        };
+        self.with_member(Member { day, ..member })
     }
 
     fn pledged(self, p: Pledge) -> Account
@@ -206,7 +205,10 @@ impl ValidAccount {
             market: p.market,
             discount: p.discount,
         };
-        self.kept(securities, self.account.member.day)
+        self.with_member(Member {
+            securities,
+            ..self.account.member
+        })
     }
 
     fn entered(self, e: Entry) -> Account

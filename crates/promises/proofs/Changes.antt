@@ -27,12 +27,12 @@ use Rattle.book.specs.declared.accounts.Account.{Account}
 use Rattle.book.specs.Positions.{held_of, opening_of, held_sides, paired_of}
 use Rattle.validity.specs.Totals.{SideIn}
 use Rattle.validity.specs.InRange.{PositionIs}
-use Rattle.posting.specs.declared.records.Mark.{Mark}
-use Rattle.posting.specs.declared.records.Mark.TheVariants.{Opens, ClosesOld, ClosesNew}
-use Rattle.posting.specs.declared.records.Trade.{Trade}
-use Rattle.posting.specs.declared.records.Pairing.{Pairing}
-use Rattle.posting.specs.declared.records.Payment.{Payment}
-use Rattle.posting.specs.declared.records.Pledge.{Pledge}
+use Rattle.requests.specs.declared.records.Mark.{Mark}
+use Rattle.requests.specs.declared.records.Mark.TheVariants.{Opens, ClosesOld, ClosesNew}
+use Rattle.requests.specs.declared.records.Trade.{Trade}
+use Rattle.requests.specs.declared.records.Pairing.{Pairing}
+use Rattle.requests.specs.declared.records.Payment.{Payment}
+use Rattle.requests.specs.declared.records.Pledge.{Pledge}
 use Rattle.posting.specs.declared.fills.Way.{Way}
 use Rattle.posting.specs.declared.fills.Way.TheVariants.{Long, Short}
 use Rattle.posting.specs.declared.fills.Party.{Party}
@@ -90,7 +90,7 @@ paid_in Seller price n cash t l i = let w = mul-le-mul_left n.0 l in in_weaken (
 
 counted_fine : (s : Securities) (d : Day) (p : Position) (a : Account) → Sound a → a.member.accepted < 20_000
     → Amount (10 ^ 15) s.market → s.discount ≤ 8_000 → Amount (10 ^ 12 * (a.member.accepted + 1)) d.deposits → Amount (10 ^ 12 * (a.member.accepted + 1)) d.withdrawals
-    → PositionIs p → p.traded.0 ≤ a.position.traded.0 + 10_000 → Fine a (record { member = counted s d a.member; position = p })
+    → PositionIs p → p.traded.0 ≤ a.position.traded.0 + 10_000 → Fine a (record { member = counted (record a.member { securities = s; day = d }); position = p })
 counted_fine s d p a sound l market discount deposits withdrawals position few =
     let m = sound.member in
     record {

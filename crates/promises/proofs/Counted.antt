@@ -9,12 +9,12 @@ use Rattle.book.specs.Heads.{head_at}
 use Rattle.book.specs.Members.{member_at}
 use Rattle.book.specs.Accounts.{account_at}
 use Rattle.std.specs.Prelude.{Option}
-use Rattle.posting.specs.declared.records.Request.{Request}
-use Rattle.posting.specs.Records.{request_of, names_of}
+use Rattle.requests.specs.declared.records.Request.{Request}
+use Rattle.requests.specs.Records.{request_of, names_of}
 use Rattle.posting.specs.Answers.{answer, after}
 use Rattle.promises.specs.Naming.{named}
 use Rattle.promises.specs.Dealings.{fills_of, traded_of, row_at}
-use Rattle.posting.proofs.Requests.{Formed, trading, pairing, depositing, withdrawing, pledging, nothing, formed}
+use Rattle.requests.proofs.Requests.{Formed, trading, pairing, depositing, withdrawing, pledging, nothing, formed}
 use Rattle.promises.proofs.AcceptedMakes.{sole, both, makes, accepted}
 use Rattle.promises.proofs.Grown.{grown}
 use Rattle.promises.proofs.DayOfRun.{record_moves}

@@ -19,13 +19,13 @@ use Rattle.book.specs.Heads.{head_at}
 use Rattle.book.specs.Accounts.{account_at}
 use Rattle.validity.specs.Valid.{valid_book}
 use Rattle.std.specs.Prelude.{Option}
-use Rattle.posting.specs.declared.records.Request.{Request}
+use Rattle.requests.specs.declared.records.Request.{Request}
 use Rattle.posting.specs.declared.fills.Way.TheVariants.{Long, Short}
 use Rattle.posting.specs.declared.fills.Party.TheVariants.{Buyer, Seller}
-use Rattle.posting.specs.Records.{request_of, names_of, contract_of}
+use Rattle.requests.specs.Records.{request_of, names_of, contract_of}
 use Rattle.posting.specs.Answers.{answer, after}
 use Rattle.promises.specs.Dealings.{Fill, dealing, delivering, share, fills_of, accepted_of, fills_in, dealings, row_at}
-use Rattle.posting.proofs.Requests.{Formed, trading, pairing, depositing, withdrawing, pledging, nothing, formed}
+use Rattle.requests.proofs.Requests.{Formed, trading, pairing, depositing, withdrawing, pledging, nothing, formed}
 use Rattle.promises.proofs.Changes.{trade_done}
 use Rattle.promises.proofs.Kept.{kept}
 use Rattle.promises.proofs.AcceptedMakes.{sole, both, makes, accepted}

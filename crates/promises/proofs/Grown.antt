@@ -16,7 +16,7 @@ use Rattle.profit.specs.Day.{SideDay, cash_of}
 use Rattle.book.specs.declared.positions.Side.{Side}
 use Rattle.book.specs.declared.positions.Position.{Position}
 use Rattle.book.specs.Positions.{held_of}
-use Rattle.posting.specs.declared.records.Mark.TheVariants.{Opens, ClosesOld, ClosesNew}
+use Rattle.requests.specs.declared.records.Mark.TheVariants.{Opens, ClosesOld, ClosesNew}
 use Rattle.posting.specs.declared.fills.Way.TheVariants.{Long, Short}
 use Rattle.posting.specs.declared.fills.Party.TheVariants.{Buyer, Seller}
 use Rattle.posting.specs.Fills.{way_of, side_on, with_side, paired_up, dealt, enough}

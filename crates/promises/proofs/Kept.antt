@@ -22,9 +22,10 @@ use Rattle.validity.proofs.Fits.{member_fits}
 use Rattle.validity.proofs.SameHead.{head_kept}
 use Rattle.validity.proofs.AsFacts.{Rows}
 use Rattle.std.specs.Prelude.{Option}
-use Rattle.posting.specs.declared.records.Request.{Request}
-use Rattle.posting.specs.Answers.{accounts, step, after}
-use Rattle.posting.proofs.Requests.{Formed, formed}
+use Rattle.requests.specs.declared.records.Request.{Request}
+use Rattle.book.specs.Views.{sights}
+use Rattle.posting.specs.Answers.{step, after}
+use Rattle.requests.proofs.Requests.{Formed, formed}
 use Rattle.promises.proofs.Sound.{Fine, sound_next, position_fits}
 use Rattle.promises.proofs.Changes.{Cancels}
 use Rattle.promises.proofs.Puts.{account_of, Put, bytes_put, sound_at, rows_put, balance_one, balance_two}
@@ -63,7 +64,7 @@ keeps_two {h} {xs} m m' j a c o w w' ne f g n =
     as_it_was put = subst (λ (x : Account). Fine x c)
         (λ i. record { member = sym (put.members m' w'.member ne) i; position = sym (put.positions m' j w'.member w.contract (inl ne)) i }) g
 
-keeps_made : {h : Head} {xs : List ℕ} {ps : List Place} {as' : List Account} → Whole h xs → Made h xs ps as' → Whole h (lens.puts accounts h xs ps as')
+keeps_made : {h : Head} {xs : List ℕ} {ps : List Place} {as' : List Account} → Whole h xs → Made h xs ps as' → Whole h (lens.puts sights h xs ps as')
 keeps_made o (one {p = p} {a = a} w s f same) = keeps_one p a o w f same
 keeps_made o (two {m} {m'} {j} {a} {c} w w' ne s s' f g n) = keeps_two m m' j a c o w w' (λ e. ne (sym e)) f g n
 

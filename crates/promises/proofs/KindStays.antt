@@ -13,11 +13,12 @@ use Rattle.book.specs.Layout.{member_off, book_length}
 use Rattle.book.specs.Heads.{head_at}
 use Rattle.book.specs.Members.{kind_number, kind_number_at, member_at}
 use Rattle.book.specs.Accounts.{place, account_at, put_account, Within}
+use Rattle.book.specs.Views.{sights}
 use Rattle.book.proofs.Rows.{kind_is}
 use Rattle.book.proofs.LensLaws.{length_account, kind_kept, account_kind}
-use Rattle.posting.specs.Records.{request_of}
-use Rattle.posting.specs.Answers.{accounts, answer, after}
-use Rattle.posting.proofs.Requests.{formed}
+use Rattle.requests.specs.Records.{request_of}
+use Rattle.posting.specs.Answers.{answer, after}
+use Rattle.requests.proofs.Requests.{formed}
 use Rattle.promises.proofs.Sound.{Fine}
 use Rattle.promises.proofs.Whole.{Whole, whole_of, room}
 use Rattle.promises.proofs.Made.{step_puts, Made, one, two, made}
@@ -40,7 +41,7 @@ kind_put h xs p a l w same m k = elim (ℕ_discrete m p.member) [
 ]
 
 made_kinds : {h : Head} {xs : List ℕ} {ps : List Place} {as' : List Account} → Whole h xs → Made h xs ps as' → (m : ℕ) → m < h.members
-    → kind_number_at (lens.puts accounts h xs ps as') (member_off h m) ≡ kind_number_at xs (member_off h m)
+    → kind_number_at (lens.puts sights h xs ps as') (member_off h m) ≡ kind_number_at xs (member_off h m)
 made_kinds {h} {xs} o (one {p = p} {a = a} w s f same) m k = kind_put h xs p a (room o) w (kind_at p a o w f) m k
 made_kinds {h} {xs} o (two {m = m₁} {m' = m₂} {j = j} {a = a} {c = c} w w' ne s s' f g n) m k =
     let ys : List ℕ = put_account h xs (place m₁ j) a in

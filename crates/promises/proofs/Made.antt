@@ -11,15 +11,15 @@ use Rattle.book.specs.declared.heads.Head.{Head}
 use Rattle.book.specs.declared.accounts.Place.{Place}
 use Rattle.book.specs.declared.accounts.Account.{Account}
 use Rattle.book.specs.Accounts.{place, account_at, Within}
+use Rattle.book.specs.Views.{View, Count, view_at, sights}
 use Rattle.std.specs.Prelude.{Option, Some, None}
-use Rattle.posting.specs.declared.records.Request.{Request}
-use Rattle.posting.specs.declared.records.Request.TheVariants.{Trading, PairingUp, Depositing, Withdrawing, Pledging}
+use Rattle.requests.specs.declared.records.Request.{Request}
+use Rattle.requests.specs.declared.records.Request.TheVariants.{Trading, PairingUp, Depositing, Withdrawing, Pledging}
 use Rattle.posting.specs.declared.fills.Way.TheVariants.{Long, Short}
 use Rattle.posting.specs.declared.fills.Party.TheVariants.{Buyer, Seller}
-use Rattle.posting.specs.Records.{places_for}
+use Rattle.requests.specs.Records.{places_for}
 use Rattle.posting.specs.Postings.{trade_answer, pairing_answer, deposit_answer, withdrawal_answer, pledge_answer, posting_of}
-use Rattle.posting.specs.Answers.{accounts}
-use Rattle.posting.proofs.Requests.{Formed, trading, pairing, depositing, withdrawing, pledging, nothing}
+use Rattle.requests.proofs.Requests.{Formed, trading, pairing, depositing, withdrawing, pledging, nothing}
 use Rattle.promises.proofs.Sound.{Sound, Fine}
 use Rattle.promises.proofs.Changes.{Cancels, traded_fine, paired_fine, deposited_fine, withdrawn_fine, pledged_fine, trade_cancels, pairing_cancels, trade_done, pairing_done, deposit_done, withdrawal_done, pledge_done}
 use Rattle.promises.proofs.Puts.{sound_at}
@@ -27,14 +27,14 @@ use Rattle.promises.proofs.Whole.{Whole, some_contract}
 
 -- ---- the posting of a request, and the book after it
 
-abbrev pub posting_at : Head → List ℕ → Option Request → lens.Posting Account ℕ ℕ
-posting_at h xs q = posting_of q (lens.gets accounts h xs (places_for q))
+abbrev pub posting_at : Head → List ℕ → Option Request → lens.Posting Account ℕ Count
+posting_at h xs q = posting_of q (lens.reads view_at h xs (places_for q))
 
 abbrev pub step_of : Head → List ℕ → Option Request → List ℕ
-step_of h xs q = lens.add_all accounts h (lens.puts accounts h xs (places_for q) (posting_at h xs q).become) (posting_at h xs q).adds
+step_of h xs q = lens.add_all sights h (lens.puts sights h xs (places_for q) (posting_at h xs q).become) (posting_at h xs q).adds
 
 -- no request adds to a counter
-no_adds : (q : Option Request) (l : List Account) → (posting_of q l).adds ≡ []
+no_adds : (q : Option Request) (l : List View) → (posting_of q l).adds ≡ []
 no_adds (Some (Trading t)) [] = refl
 no_adds (Some (Trading t)) (a ∷ []) = refl
 no_adds (Some (Trading t)) (a ∷ b ∷ l) = refl
@@ -50,31 +50,31 @@ no_adds (Some (Pledging p)) (a ∷ l) = refl
 no_adds None l = refl
 
 -- and a refused one makes nothing of the accounts
-none_made : (q : Option Request) (l : List Account) → ((posting_of q l).says ≡ 0 → ⊥) → (posting_of q l).become ≡ []
+none_made : (q : Option Request) (l : List View) → ((posting_of q l).says ≡ 0 → ⊥) → (posting_of q l).become ≡ []
 none_made (Some (Trading t)) [] n = refl
 none_made (Some (Trading t)) (a ∷ []) n = refl
-none_made (Some (Trading t)) (a ∷ b ∷ l) n = on_refusal (trade_answer t a b) _ [] n
+none_made (Some (Trading t)) (a ∷ b ∷ l) n = on_refusal (trade_answer t a.account b.account) _ [] n
 none_made (Some (PairingUp p)) [] n = refl
 none_made (Some (PairingUp p)) (a ∷ []) n = refl
-none_made (Some (PairingUp p)) (a ∷ b ∷ l) n = on_refusal (pairing_answer p a b) _ [] n
+none_made (Some (PairingUp p)) (a ∷ b ∷ l) n = on_refusal (pairing_answer p a.account b.account) _ [] n
 none_made (Some (Depositing p)) [] n = refl
-none_made (Some (Depositing p)) (a ∷ l) n = on_refusal (deposit_answer p a) _ [] n
+none_made (Some (Depositing p)) (a ∷ l) n = on_refusal (deposit_answer p a.account) _ [] n
 none_made (Some (Withdrawing p)) [] n = refl
-none_made (Some (Withdrawing p)) (a ∷ l) n = on_refusal (withdrawal_answer p a) _ [] n
+none_made (Some (Withdrawing p)) (a ∷ l) n = on_refusal (withdrawal_answer p a.account) _ [] n
 none_made (Some (Pledging p)) [] n = refl
-none_made (Some (Pledging p)) (a ∷ l) n = on_refusal (pledge_answer p a) _ [] n
+none_made (Some (Pledging p)) (a ∷ l) n = on_refusal (pledge_answer p a.account) _ [] n
 none_made None l n = refl
 
-puts_none : (h : Head) (xs : List ℕ) (ps : List Place) → lens.puts accounts h xs ps [] ≡ xs
+puts_none : (h : Head) (xs : List ℕ) (ps : List Place) → lens.puts sights h xs ps [] ≡ xs
 puts_none h xs [] = refl
 puts_none h xs (p ∷ ps) = refl
 
-pub step_puts : (h : Head) (xs : List ℕ) (q : Option Request) → step_of h xs q ≡ lens.puts accounts h xs (places_for q) (posting_at h xs q).become
-step_puts h xs q = ap (lens.add_all accounts h (lens.puts accounts h xs (places_for q) (posting_at h xs q).become)) (no_adds q (lens.gets accounts h xs (places_for q)))
+pub step_puts : (h : Head) (xs : List ℕ) (q : Option Request) → step_of h xs q ≡ lens.puts sights h xs (places_for q) (posting_at h xs q).become
+step_puts h xs q = ap (lens.add_all sights h (lens.puts sights h xs (places_for q) (posting_at h xs q).become)) (no_adds q (lens.reads view_at h xs (places_for q)))
 
 pub step_refused : (h : Head) (xs : List ℕ) (q : Option Request) → ((posting_at h xs q).says ≡ 0 → ⊥) → step_of h xs q ≡ xs
 step_refused h xs q n =
-    step_puts h xs q ∙ ap (lens.puts accounts h xs (places_for q)) (none_made q (lens.gets accounts h xs (places_for q)) n) ∙ puts_none h xs (places_for q)
+    step_puts h xs q ∙ ap (lens.puts sights h xs (places_for q)) (none_made q (lens.reads view_at h xs (places_for q)) n) ∙ puts_none h xs (places_for q)
 
 -- ---- what an accepted one makes
 

@@ -18,10 +18,10 @@ use Rattle.promises.proofs.ProfitOnTheSheet.{profit_on_the_sheet}
 -- over any number of days, every morning's book is a valid opening book
 pub every_morning : (first book : List ℕ) → opening_book first ≡ true → Morning first book → opening_book book ≡ true
 every_morning first book opening the_first = opening
-every_morning first next opening (the_next {book = book} before day settled) = next_morning (end_of book day.records) day.prices day.next day.results settled
+every_morning first next opening (the_next {book = book} before day settled) = next_morning (end_of book day.records) day.given day.next day.results settled
 
 pub every_evening : (first book : List ℕ) → opening_book first ≡ true → Morning first book → (day : Day) (m : ℕ) → m < (head_at book).members
-    → settle_answer (end_of book day.records) day.prices (length day.next) (length day.results) ≡ 0
-    → (profit : Fen) → ByArticle book day.records (tonight_at day.prices) (delivery_at day.prices) m profit
-    → written_profit (end_of book day.records) day.prices day.next day.results m ≡ profit.0
-every_evening first book opening days day m = profit_on_the_sheet book day.records day.prices day.next day.results m (every_morning first book opening days)
+    → settle_answer (end_of book day.records) day.given (length day.next) (length day.results) ≡ 0
+    → (profit : Fen) → ByArticle book day.records (tonight_at day.given.prices) (delivery_at day.given.prices) m profit
+    → written_profit (end_of book day.records) day.given day.next day.results m ≡ profit.0
+every_evening first book opening days day m = profit_on_the_sheet book day.records day.given day.next day.results m (every_morning first book opening days)

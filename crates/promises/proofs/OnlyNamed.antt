@@ -1,34 +1,38 @@
 -- THEOREM: a record changes the accounts that it names and nothing else, and those to what its rules make of them; a refused record changes nothing.
-use mathlib.Core.Path.{◌≡◌, refl, sym, ap, ap₂, ◌∙◌, subst}
+use mathlib.Core.Path.{◌≡◌, refl, sym, ap, ◌∙◌, subst}
 use mathlib.Core.Logic.{◌≢◌, ◌⊎◌, inl, inr}
 use mathlib.Core.List.Memᴰ
 use mathlib.Core.List.{List, [], ◌∷◌, Memᴰ}
-use Prim.Native.Nat.{ℕ, ◌≤◌, ◌<◌}
+use Prim.Native.Nat.{ℕ, ◌<◌}
 use native.Mathlib.Omega.{arith}
 use lib.ListN.{length}
 use Rattle.std.proofs.lemmas.Bool.{cond_both}
 use Rattle.wire.specs.LittleEndian.{number_at, Apart}
 use Rattle.wire.proofs.Places.{apart_sym}
 use Rattle.order.specs.Lens as lens
+use Rattle.order.specs.Lens.{Placed, none, also}
+use Rattle.order.proofs.Makes.{makes}
 use Rattle.book.specs.declared.heads.Head.{Head}
 use Rattle.book.specs.declared.accounts.Place.{Place}
 use Rattle.book.specs.declared.accounts.Account.{Account}
-use Rattle.book.specs.Layout.{head_size, contract_size, member_size, position_size, contract_off, member_off, position_off, book_length}
+use Rattle.book.specs.Layout.{head_size, contract_size, member_size, position_size, contract_off, member_off, position_off}
 use Rattle.book.specs.Heads.{head_at}
 use Rattle.book.specs.ContractRows.{contract_at}
 use Rattle.book.specs.Positions.{position_at}
-use Rattle.book.specs.Accounts.{place, account_at, put_account, Within}
+use Rattle.book.specs.Accounts.{place, account_at, put_account, Within, Far}
+use Rattle.book.specs.Views.{view_at, sights}
 use Rattle.book.proofs.Places.{head_member, head_position, contract_member, contract_position, members_apart, member_position, positions_apart}
 use Rattle.book.proofs.Rows.{Same, same_contract, same_position}
 use Rattle.book.proofs.Contents.{same_head}
-use Rattle.book.proofs.LensLaws.{length_account, account_stays, get_put, account_back}
+use Rattle.book.proofs.LensLaws.{length_account, account_stays}
+use Rattle.book.proofs.Seeing.{Room, Fits, laws, stores}
 use Rattle.validity.specs.Valid.{valid_book}
 use Rattle.validity.proofs.Fits.{member_fits}
-use Rattle.posting.specs.Records.{request_of}
-use Rattle.posting.specs.Answers.{accounts, places_of, posting, step, answer, after}
+use Rattle.requests.specs.Records.{request_of}
+use Rattle.posting.specs.Answers.{places_of, posting, step, answer, after}
 use Rattle.promises.specs.Naming.{named, contract_named}
 use Rattle.promises.specs.Promises.{SameBytes, Untouched}
-use Rattle.posting.proofs.Requests.{formed, standing, places_within}
+use Rattle.requests.proofs.Requests.{formed, standing, places_within}
 use Rattle.promises.proofs.Sound.{Sound, sound_next, position_fits}
 use Rattle.promises.proofs.Whole.{whole_of, room}
 use Rattle.promises.proofs.Made.{posting_at, step_puts, step_refused, Made, one, two, made}
@@ -38,14 +42,14 @@ use Rattle.promises.proofs.Answering.{valid_answer, valid_after, accepted_valid}
 
 puts_stay : (h : Head) (xs : List ℕ) (ps : List Place) (as' : List Account) (o size : ℕ)
     → ((p : Place) → Memᴰ p ps → Apart o size (member_off h p.member) member_size × Apart o size (position_off h p.member p.contract) position_size)
-    → Same (lens.puts accounts h xs ps as') xs o size
+    → Same (lens.puts sights h xs ps as') xs o size
 puts_stay h xs [] as' o size f at w l = refl
 puts_stay h xs (p ∷ ps) [] o size f at w l = refl
 puts_stay h xs (p ∷ ps) (a ∷ as') o size f at w l =
     let g = f p (Memᴰ.head refl) in
     puts_stay h (put_account h xs p a) ps as' o size (λ q k. f q (Memᴰ.tail k)) at w l ∙ account_stays h xs p a o size g.0 g.1 at w l
 
-length_puts : (h : Head) (xs : List ℕ) (ps : List Place) (as' : List Account) → length (lens.puts accounts h xs ps as') ≡ length xs
+length_puts : (h : Head) (xs : List ℕ) (ps : List Place) (as' : List Account) → length (lens.puts sights h xs ps as') ≡ length xs
 length_puts h xs [] as' = refl
 length_puts h xs (p ∷ ps) [] = refl
 length_puts h xs (p ∷ ps) (a ∷ as') = length_puts h (put_account h xs p a) ps as' ∙ length_account h xs p a
@@ -60,7 +64,7 @@ module _ (book r : List ℕ) where
   h = head_at book
 
   -- after a record the book is as it was, or it has accounts put back at the record's places
-  either : (P : List ℕ → Type 0) → P book → ((as' : List Account) → P (lens.puts accounts h book (places_of h r) as')) → P (after book r)
+  either : (P : List ℕ → Type 0) → P book → ((as' : List Account) → P (lens.puts sights h book (places_of h r) as')) → P (after book r)
   unfolding after
   either P same other =
       cond_both (valid_book book) (step book r) book P (λ e. subst P (sym (step_puts h book (request_of h r))) (other (posting_at h book (request_of h r)).become)) (λ e. same)
@@ -134,23 +138,21 @@ refused_stays book r n =
 
 -- ---- an accepted record
 
-sound_back : (h : Head) (xs : List ℕ) (p : Place) (a : Account) → book_length h ≤ length xs → Within h p → Sound a → account_at h (put_account h xs p a) p ≡ a
-sound_back h xs p a l w s = account_back h xs p a l w (member_fits a.member s.member) (position_fits s)
+sound_fits : {a : Account} → Sound a → Fits a
+sound_fits {a} s = record { member = member_fits a.member s.member; position = position_fits s }
 
-made_back : {h : Head} {xs : List ℕ} {ps : List Place} {as' : List Account} → book_length h ≤ length xs → Made h xs ps as' → lens.gets accounts h (lens.puts accounts h xs ps as') ps ≡ as'
-made_back {h} {xs} l (one {p = p} {a = a} w s f same) = ap (λ (x : Account). x ∷ []) (sound_back h xs p a l w (sound_next s f))
-made_back {h} {xs} l (two {m} {m'} {j} {a} {c} w w' ne s s' f g n) =
-    let ys : List ℕ = put_account h xs (place m j) a in
-    ap₂ {C = List Account} (λ x y. x ∷ y ∷ [])
-    (get_put h ys (place m' j) (place m j) c (record { one = w'; other = w; differ = λ e. ne (sym e) }) ∙ sound_back h xs (place m j) a l w (sound_next s f))
-    (sound_back h ys (place m' j) c (omega (arith, length_account h xs (place m j) a)) w' (sound_next s' g))
+placed : {h : Head} {xs : List ℕ} {ps : List Place} {as' : List Account} → Made h xs ps as' → Placed h Within Far Fits ps as'
+placed {h} (one w s f same) = also w (sound_fits (sound_next s f)) (λ q k. elim k [ ]) none
+placed {h} (two {m} {m'} {j} w w' ne s s' f g n) =
+    also w (sound_fits (sound_next s f)) (λ q k. subst (λ (x : Place). Far h x (place m j)) (sym (Memᴰ.eq_of_singleton k)) (record { one = w'; other = w; differ = λ e. ne (sym e) }))
+    (also w' (sound_fits (sound_next s' g)) (λ q k. elim k [ ]) none)
 
 -- the accounts at its places are those that its rules make of what stood there
 pub accepted_makes : (book r : List ℕ) → answer book r ≡ 0
-    → let h = head_at book in lens.gets accounts h (after book r) (places_of h r) ≡ (posting h r (lens.gets accounts h book (places_of h r))).become
+    → let h = head_at book in lens.reads account_at h (after book r) (places_of h r) ≡ (posting h r (lens.reads view_at h book (places_of h r))).become
 accepted_makes book r a =
     let h : Head = head_at book in
     let e = accepted_valid book r a in
     let o = whole_of book e in
-    ap (λ (ys : List ℕ). lens.gets accounts h ys (places_of h r)) (valid_after book r e ∙ step_puts h book (request_of h r))
-    ∙ made_back (room o) (made o (formed h r) (sym (valid_answer book r e) ∙ a))
+    ap (λ (ys : List ℕ). lens.reads account_at h ys (places_of h r)) (valid_after book r e ∙ step_puts h book (request_of h r))
+    ∙ makes sights account_at Room Within Far Fits laws stores h book [] (room o) (placed (made o (formed h r) (sym (valid_answer book r e) ∙ a)))

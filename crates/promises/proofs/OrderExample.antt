@@ -4,11 +4,13 @@ use mathlib.Core.List.Memᴰ
 use mathlib.Core.List.{List, [], ◌∷◌, Memᴰ}
 use Prim.Native.Nat.{ℕ}
 use native.Mathlib.Omega.{arith}
-use Rattle.wire.specs.LittleEndian.{number_at}
+use Rattle.wire.specs.LittleEndian.{number_at, bytes_of}
 use Rattle.order.specs.Order.{Arranged}
 use Rattle.order.proofs.Swapped.{swap, first_two}
+use Rattle.book.specs.Layout.{book_length}
 use Rattle.book.specs.Heads.{head_at}
-use Rattle.posting.specs.Records.{record_at, read_deposit, read_withdrawal, read_kind, request_of}
+use Rattle.book.specs.Whole.{head_bytes}
+use Rattle.requests.specs.Records.{record_at, read_deposit, read_withdrawal, read_kind, request_of}
 use Rattle.promises.specs.Naming.{named, Common}
 use Rattle.promises.specs.SameDay.{SameRun}
 use Rattle.promises.specs.SmallBook.{morning, trade, deposit, withdrawal}
@@ -22,11 +24,11 @@ abbrev pub other_way : List (List ℕ)
 other_way = withdrawal ∷ deposit ∷ trade ∷ deposit ∷ []
 
 deposit_names : named morning deposit ≡ 1 ∷ []
-unfolding head_at number_at request_of read_kind read_deposit record_at
+unfolding head_at number_at bytes_of head_bytes book_length request_of read_kind read_deposit record_at
 deposit_names = refl
 
 withdrawal_names : named morning withdrawal ≡ 0 ∷ []
-unfolding head_at number_at request_of read_kind read_withdrawal record_at
+unfolding head_at number_at bytes_of head_bytes book_length request_of read_kind read_withdrawal record_at
 withdrawal_names = refl
 
 nobody_both : ¬ Common morning deposit withdrawal

@@ -1,48 +1,28 @@
 -- THEOREM: the order of records that name no common member does not matter, byte for byte.
-use mathlib.Core.Path.{◌≡◌, refl, sym, ap, ◌∙◌}
+use mathlib.Core.Path.{◌≡◌, refl, sym, ap, ◌∙◌, subst}
 use mathlib.Core.Bool.{Bool, true, false}
 use mathlib.Core.List.Memᴰ
 use mathlib.Core.List.{List, [], Memᴰ}
-use Prim.{Unit, tt}
 use Prim.Native.Nat.{ℕ, ◌<◌}
 use Rattle.order.specs.Order.{Arranged, Commutes, SameOutcome}
-use Rattle.order.specs.Lens.{Laws}
 use Rattle.order.proofs.Locality.{commute}
 use Rattle.order.proofs.Theorem.{order}
 use Rattle.book.specs.declared.heads.Head.{Head}
 use Rattle.book.specs.declared.accounts.Place.{Place}
 use Rattle.book.specs.Heads.{head_at}
 use Rattle.book.specs.Accounts.{Within, Far}
-use Rattle.book.proofs.LensLaws.{head_put, get_put, put_put}
+use Rattle.book.specs.Views.{sights}
+use Rattle.book.proofs.Seeing.{Room, laws}
 use Rattle.validity.specs.Valid.{valid_book}
-use Rattle.posting.specs.Records.{request_of, names_of}
-use Rattle.posting.specs.Answers.{accounts, places_of, posting, says, step, answer, after}
+use Rattle.requests.specs.Records.{request_of, names_of}
+use Rattle.posting.specs.Answers.{places_of, posting, says, step, answer, after}
 use Rattle.promises.specs.Naming.{Common}
 use Rattle.promises.specs.SameDay.{SameRun}
-use Rattle.posting.proofs.Requests.{formed, standing, places_within}
-use Rattle.promises.proofs.Whole.{whole_of, some_contract}
+use Rattle.requests.proofs.Requests.{formed, standing, places_within}
+use Rattle.promises.proofs.Whole.{whole_of, room, some_contract}
 use Rattle.promises.proofs.Kept.{kept, kept_step}
 use Rattle.promises.proofs.Answering.{valid_answer, valid_after, invalid_after}
 use Rattle.promises.proofs.OnlyNamed.{counts_stay}
-
--- ---- accounts of different members do not meet
-
--- no counter asks anything of the bytes
-abbrev Any : Head → List ℕ → Type 0
-Any h s = Unit {0}
-
-laws : Laws accounts Any Within Far
-laws = record {
-  head_put = head_put;
-  head_add = λ h s c. refl;
-  sound_put = λ h s p x u. tt;
-  sound_add = λ h s c u. tt;
-  get_put = get_put;
-  put_put = put_put;
-  get_add = λ h s c p w. refl;
-  put_add = λ h s c p x w. refl;
-  add_add = λ h s c c' u. refl;
-}
 
 -- in books of the head h
 abbrev CommonBy : Head → List ℕ → List ℕ → Type 0
@@ -62,13 +42,16 @@ module _ (h : Head) (k : 0 < h.contracts) where
   -- on valid books of this head, the answer 10 is never given
   commutes : (r r' : List ℕ) → ¬ CommonBy h r r' → Commutes Good after answer r r'
   commutes r r' none = record {
-    answer_after = λ s g. there r r' s g (c.answer_after s (g.0, tt));
-    answer_before = λ s g. there r' r s g (c.answer_before s (g.0, tt));
-    both = λ s g. twice r r' s g ∙ c.both s (g.0, tt) ∙ sym (twice r' r s g);
+    answer_after = λ s g. there r r' s g (c.answer_after s (g.0, roomy s g));
+    answer_before = λ s g. there r' r s g (c.answer_before s (g.0, roomy s g));
+    both = λ s g. twice r r' s g ∙ c.both s (g.0, roomy s g) ∙ sym (twice r' r s g);
   }
     where
-      c : Commutes (λ (s : List ℕ). (head_at s ≡ h) × Any h s) step says r r'
-      c = commute accounts places_of posting Any Within Far laws h (λ a p i. places_within k (formed h a) p i) r r' (far r r' none) (far r' r (λ z. none (z.0, z.2, z.1)))
+      roomy : (s : List ℕ) → Good s → Room h s
+      roomy s g = subst (λ (x : Head). Room x s) g.0 (room (whole_of s g.1))
+
+      c : Commutes (λ (s : List ℕ). (head_at s ≡ h) × Room h s) step says r r'
+      c = commute sights places_of posting Room Within Far laws h (λ a p i. places_within k (formed h a) p i) r r' (far r r' none) (far r' r (λ z. none (z.0, z.2, z.1)))
 
       there : (a b s : List ℕ) → Good s → says (step s a) b ≡ says s b → answer (after s a) b ≡ answer s b
       there a b s g e = ap (λ (t : List ℕ). answer t b) (valid_after s a g.1) ∙ valid_answer (step s a) b (kept_step s a g.1) ∙ e ∙ sym (valid_answer s b g.1)

@@ -141,10 +141,10 @@ module _ (book : List ℕ) (rs : List (List ℕ)) (opening : opening_book book �
 
   -- contracts are as they were in the morning
   in_contract_lem : (j : ℕ) (k : j < (head_at book).contracts) (pairings : Pairings (day_of book rs m j))
-      → day_profit (contract_in book j).multiplier (prices_by (contract_in book j) (tonight j) (delivery j)) (day_of book rs m j) pairings
+      → day_profit (contract_in book j).terms.multiplier (prices_by (contract_in book j) (tonight j) (delivery j)) (day_of book rs m j) pairings
       ≡ row_profit (contract_in (final after book rs) j) (row_at (head_at book) (final after book rs) m j) (tonight j) (delivery j)
   in_contract_lem j k pairings =
-      profit_of_records book rs opening m j l k (contract_in book j).multiplier (prices_by (contract_in book j) (tonight j) (delivery j)) pairings
+      profit_of_records book rs opening m j l k (contract_in book j).terms.multiplier (prices_by (contract_in book j) (tonight j) (delivery j)) pairings
       ∙ ap (λ (c : Contract). row_profit c (row_at (head_at book) (final after book rs) m j) (tonight j) (delivery j)) (sym (run_contract book rs j k))
 
   -- whatever the article comes to is what the book at the end says

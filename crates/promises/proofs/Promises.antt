@@ -60,4 +60,4 @@ pub one_posting : OnePosting
 one_posting book r number other left left' a b = (a.answered ∙ sym b.answered, a.bytes ∙ sym b.bytes)
 
 pub one_settlement : OneSettlement
-one_settlement book prices next results number other left left' written written' a b = (a.answered ∙ sym b.answered, a.book_bytes ∙ sym b.book_bytes, a.sheet_bytes ∙ sym b.sheet_bytes)
+one_settlement book given next results number other left left' written written' a b = (a.answered ∙ sym b.answered, a.book_bytes ∙ sym b.book_bytes, a.sheet_bytes ∙ sym b.sheet_bytes)

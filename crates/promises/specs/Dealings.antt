@@ -11,16 +11,16 @@ use Rattle.book.specs.declared.positions.Position.{Position}
 use Rattle.book.specs.Layout.{position_off}
 use Rattle.book.specs.Heads.{head_at}
 use Rattle.book.specs.Positions.{position_at, opening_of, held_sides, paired_of}
-use Rattle.posting.specs.declared.records.Mark.{Mark}
-use Rattle.posting.specs.declared.records.Mark.TheVariants.{Opens, ClosesOld, ClosesNew}
+use Rattle.requests.specs.declared.records.Mark.{Mark}
+use Rattle.requests.specs.declared.records.Mark.TheVariants.{Opens, ClosesOld, ClosesNew}
 use Rattle.std.specs.Prelude.{Option, Some, None}
-use Rattle.posting.specs.declared.records.Request.{Request}
-use Rattle.posting.specs.declared.records.Request.TheVariants.{Trading, PairingUp, Depositing, Withdrawing, Pledging}
+use Rattle.requests.specs.declared.records.Request.{Request}
+use Rattle.requests.specs.declared.records.Request.TheVariants.{Trading, PairingUp, Depositing, Withdrawing, Pledging}
 use Rattle.posting.specs.declared.fills.Way.{Way}
 use Rattle.posting.specs.declared.fills.Way.TheVariants.{Long, Short}
 use Rattle.posting.specs.declared.fills.Party.{Party}
 use Rattle.posting.specs.declared.fills.Party.TheVariants.{Buyer, Seller}
-use Rattle.posting.specs.Records.{request_of}
+use Rattle.requests.specs.Records.{request_of}
 use Rattle.promises.specs.Runs.{answers_to}
 
 -- ---- read off the records

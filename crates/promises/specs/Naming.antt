@@ -2,7 +2,7 @@
 use Rattle.std.specs.Prelude.{ℕ}
 use mathlib.Core.List.{List, Memᴰ}
 use Rattle.book.specs.Heads.{head_at}
-use Rattle.posting.specs.Records.{request_of, names_of, contract_of}
+use Rattle.requests.specs.Records.{request_of, names_of, contract_of}
 
 -- nobody, where it is refused 1
 abbrev pub named : (book r : List ℕ) → List ℕ

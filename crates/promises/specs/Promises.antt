@@ -4,7 +4,7 @@
 use Rattle.std.specs.Prelude.{ℕ, ◌+◌, ◌<◌, ◌≡◌, ◌≢◌, true, length, get_or}
 use mathlib.Core.List.{List, [], Memᴰ}
 use Rattle.order.specs.Order.{Arranged}
-use Rattle.order.specs.Lens.{gets}
+use Rattle.order.specs.Lens.{reads}
 use Rattle.rules.specs.declared.units.Fen.{Fen}
 use Rattle.rules.specs.declared.units.Price.{Price}
 use Rattle.book.specs.Layout.{head_size, contract_size, member_size, position_size, contract_off, member_off, position_off}
@@ -12,8 +12,11 @@ use Rattle.book.specs.Heads.{head_at}
 use Rattle.book.specs.Members.{member_at}
 use Rattle.validity.specs.Valid.{valid_book, check_answer}
 use Rattle.validity.specs.Opening.{opening_book}
-use Rattle.posting.specs.Records.{request_of}
-use Rattle.posting.specs.Answers.{accounts, places_of, posting, answer, after}
+use Rattle.requests.specs.Records.{request_of}
+use Rattle.book.specs.Accounts.{account_at}
+use Rattle.book.specs.Views.{view_at}
+use Rattle.posting.specs.Answers.{places_of, posting, answer, after}
+use Rattle.tonight.specs.Given.{Given}
 use Rattle.tonight.specs.Prices.{tonight_at, delivery_at}
 use Rattle.settlement.specs.Settle.{settle_answer, next_after, results_after}
 use Rattle.promises.specs.Naming.{named, contract_named, Common}
@@ -50,10 +53,10 @@ OnlyTheNamed = (book r : List ℕ) → Untouched book r
 abbrev pub RefusedChangesNothing : Type 0
 RefusedChangesNothing = (book r : List ℕ) → answer book r ≢ 0 → after book r ≡ book
 
--- Demand 2: the accounts that an accepted record names become what its kind's rules make of them as they stood.
+-- Demand 2: the accounts that an accepted record names become what its kind's rules make of what was seen of them as they stood.
 abbrev pub AcceptedMakes : Type 0
 AcceptedMakes = (book r : List ℕ) → answer book r ≡ 0
-    → gets accounts (head_at book) (after book r) (places_of (head_at book) r) ≡ (posting (head_at book) r (gets accounts (head_at book) book (places_of (head_at book) r))).become
+    → reads account_at (head_at book) (after book r) (places_of (head_at book) r) ≡ (posting (head_at book) r (reads view_at (head_at book) book (places_of (head_at book) r))).become
 
 -- Day records: "an accepted record adds 1 to the accepted count of each member it names". Demand 2.
 abbrev pub Counted : Type 0
@@ -73,10 +76,10 @@ TradedCounted = (book r : List ℕ) → answer book r ≡ 0 → (m j : ℕ) → 
 abbrev pub Order : Type 0
 Order = (book : List ℕ) (records other : List (List ℕ)) (to : ℕ → ℕ) → Arranged (Common book) [] records other to → SameRun book records other to
 
--- Demand 3. Settlement of the two ends, at equal prices and with equal buffers lent, gives equal answers, next books and results.
+-- Demand 3. Settlement of the two ends, given the same and with equal buffers lent, gives equal answers, next books and results.
 abbrev pub EveningAfterOrder : Type 0
 EveningAfterOrder = (book : List ℕ) (records other : List (List ℕ)) (to : ℕ → ℕ) → Arranged (Common book) [] records other to
-    → (prices next results : List ℕ) → SameEvening book records other prices next results
+    → (given : Given) (next results : List ℕ) → SameEvening book records other given next results
 
 -- ---- profit or loss
 
@@ -94,15 +97,15 @@ SomePairing = (book : List ℕ) (records : List (List ℕ)) (tonight delivery : 
 -- Demand 2. Where the evening is answered 0, the profit or loss that settlement writes for a member is article 31's over the accepted
 -- records, by every pairing.
 abbrev pub ProfitOnTheSheet : Type 0
-ProfitOnTheSheet = (book : List ℕ) (records : List (List ℕ)) (prices next results : List ℕ) (m : ℕ) → opening_book book ≡ true → m < (head_at book).members
-    → settle_answer (end_of book records) prices (length next) (length results) ≡ 0
-    → (profit : Fen) → ByArticle book records (tonight_at prices) (delivery_at prices) m profit → written_profit (end_of book records) prices next results m ≡ profit.0
+ProfitOnTheSheet = (book : List ℕ) (records : List (List ℕ)) (given : Given) (next results : List ℕ) (m : ℕ) → opening_book book ≡ true → m < (head_at book).members
+    → settle_answer (end_of book records) given (length next) (length results) ≡ 0
+    → (profit : Fen) → ByArticle book records (tonight_at given.prices) (delivery_at given.prices) m profit → written_profit (end_of book records) given next results m ≡ profit.0
 
 -- ---- day after day
 
 -- Evening settlement, "the next book": an evening answered 0 leaves a valid opening book in the first bytes of the room lent. Demand 2.
 abbrev pub NextMorning : Type 0
-NextMorning = (book prices next results : List ℕ) → settle_answer book prices (length next) (length results) ≡ 0 → opening_book (next_book book prices next results) ≡ true
+NextMorning = (book : List ℕ) (given : Given) (next results : List ℕ) → settle_answer book given (length next) (length results) ≡ 0 → opening_book (next_book book given next results) ≡ true
 
 -- Over any number of days, of any records and any evenings answered 0, every morning's book is a valid opening book. Demand 2.
 abbrev pub EveryMorning : Type 0
@@ -111,9 +114,9 @@ EveryMorning = (first book : List ℕ) → opening_book first ≡ true → Morni
 -- And so the profit or loss written on any of these days' evenings is article 31's over that day's accepted records. Demand 2.
 abbrev pub DayAfterDay : Type 0
 DayAfterDay = (first book : List ℕ) → opening_book first ≡ true → Morning first book → (day : Day) (m : ℕ) → m < (head_at book).members
-    → settle_answer (end_of book day.records) day.prices (length day.next) (length day.results) ≡ 0
-    → (profit : Fen) → ByArticle book day.records (tonight_at day.prices) (delivery_at day.prices) m profit
-    → written_profit (end_of book day.records) day.prices day.next day.results m ≡ profit.0
+    → settle_answer (end_of book day.records) day.given (length day.next) (length day.results) ≡ 0
+    → (profit : Fen) → ByArticle book day.records (tonight_at day.given.prices) (delivery_at day.given.prices) m profit
+    → written_profit (end_of book day.records) day.given day.next day.results m ≡ profit.0
 
 -- ---- one outcome
 
@@ -127,10 +130,10 @@ pub record PostAllows (book r : List ℕ) (number : ℕ) (left : List ℕ) : Typ
   pub bytes : left ≡ after book r
 
 -- and clearing_settle's: the number, and the bytes of both buffers
-pub record SettleAllows (book prices next results : List ℕ) (number : ℕ) (next' results' : List ℕ) : Type 0 where
-  pub answered : number ≡ settle_answer book prices (length next) (length results)
-  pub book_bytes : next' ≡ next_after book prices next results
-  pub sheet_bytes : results' ≡ results_after book prices next results
+pub record SettleAllows (book : List ℕ) (given : Given) (next results : List ℕ) (number : ℕ) (next' results' : List ℕ) : Type 0 where
+  pub answered : number ≡ settle_answer book given (length next) (length results)
+  pub book_bytes : next' ≡ next_after book given next results
+  pub sheet_bytes : results' ≡ results_after book given next results
 
 -- What the promises say: "two outcomes allowed by a promise are proved equal".
 abbrev pub OneCheck : Type 0
@@ -140,6 +143,6 @@ abbrev pub OnePosting : Type 0
 OnePosting = (book r : List ℕ) (number other : ℕ) (left left' : List ℕ) → PostAllows book r number left → PostAllows book r other left' → (number ≡ other) × (left ≡ left')
 
 abbrev pub OneSettlement : Type 0
-OneSettlement = (book prices next results : List ℕ) (number other : ℕ) (left left' sheet sheet' : List ℕ)
-    → SettleAllows book prices next results number left sheet → SettleAllows book prices next results other left' sheet'
+OneSettlement = (book : List ℕ) (given : Given) (next results : List ℕ) (number other : ℕ) (left left' sheet sheet' : List ℕ)
+    → SettleAllows book given next results number left sheet → SettleAllows book given next results other left' sheet'
     → (number ≡ other) × (left ≡ left') × (sheet ≡ sheet')

@@ -13,7 +13,9 @@ use Rattle.book.specs.declared.heads.Head.{Head}
 use Rattle.book.specs.Layout.{head_size, contract_size, member_size, position_size, contracts_start, members_start, positions_start, book_length}
 use Rattle.book.specs.Heads.{entry_off, head_fields, entry_fields, contracts_entry, members_entry, positions_entry}
 use Rattle.book.specs.Books.{Book}
-use Rattle.settlement.specs.Next.{head_bytes, contract_bytes, member_bytes, positions_bytes, next_bytes, result_size, result_row, result_bytes}
+use Rattle.tonight.specs.Given.{Given}
+use Rattle.book.specs.Whole.{head_bytes}
+use Rattle.settlement.specs.Next.{contract_bytes, member_bytes, positions_bytes, next_bytes, result_size, result_row, result_bytes}
 use Rattle.settlement.proofs.Sizes.{contract_size_lem, member_size_lem, positions_size, result_size_lem}
 
 -- ---- the head
@@ -45,38 +47,38 @@ module _ (h : Head) where
 
 -- ---- the next book and the results
 
-module _ (b : Book) (ps : List ℕ) where
+module _ (b : Book) (given : Given) where
   abbrev contracts : List ℕ
-  contracts = bytes_to (contract_bytes b ps) b.head.contracts
+  contracts = bytes_to (contract_bytes b given) b.head.contracts
 
   abbrev members : List ℕ
-  members = bytes_to (member_bytes b ps) b.head.members
+  members = bytes_to (member_bytes b given) b.head.members
 
   abbrev positions : List ℕ
   positions = bytes_to (positions_bytes b) b.head.members
 
   contracts_length : length contracts ≡ b.head.contracts * contract_size
-  contracts_length = length_to contract_size (contract_bytes b ps) (contract_size_lem b ps) b.head.contracts
+  contracts_length = length_to contract_size (contract_bytes b given) (contract_size_lem b given) b.head.contracts
 
   members_length : length members ≡ b.head.members * member_size
-  members_length = length_to member_size (member_bytes b ps) (member_size_lem b ps) b.head.members
+  members_length = length_to member_size (member_bytes b given) (member_size_lem b given) b.head.members
 
   positions_length : length positions ≡ b.head.members * (b.head.contracts * position_size)
   positions_length = length_to (b.head.contracts * position_size) (positions_bytes b) (positions_size b) b.head.members
 
   pub next_parts : (l : List ℕ)
       → sets (sets (sets (sets l 0 (head_bytes b.head)) contracts_start contracts) (members_start b.head) members) (positions_start b.head) positions
-      ≡ sets l 0 (next_bytes b ps)
+      ≡ sets l 0 (next_bytes b given)
   unfolding next_bytes
   next_parts l =
       four l (head_bytes b.head) contracts members positions contracts_start (members_start b.head) (positions_start b.head) (head_size_lem b.head)
       (ap (λ (x : ℕ). contracts_start + x) contracts_length) (ap (λ (x : ℕ). members_start b.head + x) members_length)
 
-  pub next_length : length (next_bytes b ps) ≡ book_length b.head
+  pub next_length : length (next_bytes b given) ≡ book_length b.head
   unfolding next_bytes book_length
   next_length =
       omega (arith, length_four (head_bytes b.head) contracts members positions, head_size_lem b.head, contracts_length, members_length, positions_length)
 
-  pub results_length : length (result_bytes b ps) ≡ b.head.members * result_size
+  pub results_length : length (result_bytes b given) ≡ b.head.members * result_size
   unfolding result_bytes
-  results_length = length_to result_size (result_row b ps) (result_size_lem b ps) b.head.members
+  results_length = length_to result_size (result_row b given) (result_size_lem b given) b.head.members

@@ -1,6 +1,5 @@
 -- How many bytes each row has: the widths of its fields.
 use mathlib.Core.Path.{◌≡◌}
-use mathlib.Core.List.{List}
 use Prim.Native.Nat.{ℕ, ◌*◌}
 use lib.ListN.{length}
 use Rattle.folds.proofs.Rows.{length_row}
@@ -10,18 +9,19 @@ use Rattle.book.specs.ContractRows.{contract_fields}
 use Rattle.book.specs.Members.{member_fields}
 use Rattle.book.specs.Positions.{position_fields}
 use Rattle.book.specs.Books.{Book}
+use Rattle.tonight.specs.Given.{Given}
 use Rattle.tonight.specs.Night.{night_of}
 use Rattle.settlement.specs.Next.{next_contract, next_member, next_position, contract_bytes, member_bytes, position_bytes, positions_bytes, result_size, result_fields, result_row}
 
-module _ (b : Book) (ps : List ℕ) where
-  pub contract_size_lem : (j : ℕ) → length (contract_bytes b ps j) ≡ contract_size
-  contract_size_lem j = length_row (contract_fields (next_contract b ps j))
+module _ (b : Book) (given : Given) where
+  pub contract_size_lem : (j : ℕ) → length (contract_bytes b given j) ≡ contract_size
+  contract_size_lem j = length_row (contract_fields (next_contract b given j))
 
-  pub member_size_lem : (m : ℕ) → length (member_bytes b ps m) ≡ member_size
-  member_size_lem m = length_row (member_fields (next_member b ps m))
+  pub member_size_lem : (m : ℕ) → length (member_bytes b given m) ≡ member_size
+  member_size_lem m = length_row (member_fields (next_member b given m))
 
-  pub result_size_lem : (m : ℕ) → length (result_row b ps m) ≡ result_size
-  result_size_lem m = length_row (result_fields (night_of b ps m))
+  pub result_size_lem : (m : ℕ) → length (result_row b given m) ≡ result_size
+  result_size_lem m = length_row (result_fields (night_of b given m))
 
 pub position_size_lem : (b : Book) (m j : ℕ) → length (position_bytes b m j) ≡ position_size
 position_size_lem b m j = length_row (position_fields (next_position b m j))

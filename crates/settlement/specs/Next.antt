@@ -8,16 +8,16 @@ use Rattle.rules.specs.declared.units.Figures.{Figures}
 use Rattle.rules.specs.Units.{fen, lots}
 use Rattle.rules.specs.Members.{number_of}
 use Rattle.rules.specs.Margin.{remaining_of}
-use Rattle.book.specs.declared.heads.Head.{Head}
 use Rattle.book.specs.declared.contracts.Contract.{Contract}
 use Rattle.book.specs.declared.members.Member.{Member}
 use Rattle.book.specs.declared.positions.Side.{Side}
 use Rattle.book.specs.declared.positions.Position.{Position}
-use Rattle.book.specs.Heads.{head_fields, entry_fields, contracts_entry, members_entry, positions_entry}
 use Rattle.book.specs.ContractRows.{contract_fields}
 use Rattle.book.specs.Members.{money_field, member_fields}
 use Rattle.book.specs.Positions.{held_sides, paired_of, position_fields}
 use Rattle.book.specs.Books.{Book}
+use Rattle.tonight.specs.Given.{Given}
+use Rattle.book.specs.Whole.{head_bytes}
 use Rattle.tonight.specs.Prices.{tonight_at}
 use Rattle.tonight.specs.declared.nights.Night.{Night}
 use Rattle.tonight.specs.Night.{night_of}
@@ -25,28 +25,15 @@ use Rattle.tonight.specs.Night.{night_of}
 -- ---- the rows of the next book
 
 -- tonight's price as last price, the rest carried
-abbrev pub next_contract : Book → List ℕ → ℕ → Contract
-next_contract b ps j = record {
-  last = tonight_at ps j;
-  multiplier = (b.contract j).multiplier;
-  rate = (b.contract j).rate;
-  fee = (b.contract j).fee;
-  delivery = (b.contract j).delivery;
-  zero = (b.contract j).zero;
-}
+abbrev pub next_contract : Book → Given → ℕ → Contract
+next_contract b given j = let c = b.contract j in record c { terms = record c.terms { last = tonight_at given.prices j } }
 
 -- tonight's reserve, margin and usable; day fields zero; kind and securities carried
 abbrev pub member_after : Member → Figures → Member
-member_after r figures = record {
-  kind = r.kind;
-  accepted = 0;
-  figures = figures;
-  securities = r.securities;
-  day = record { deposits = fen (pos 0); withdrawals = fen (pos 0) };
-}
+member_after r figures = record r { accepted = 0; figures = figures; day = record { deposits = fen (pos 0); withdrawals = fen (pos 0) } }
 
-abbrev pub next_member : Book → List ℕ → ℕ → Member
-next_member b ps m = member_after (b.member m) (night_of b ps m).figures
+abbrev pub next_member : Book → Given → ℕ → Member
+next_member b given m = member_after (b.member m) (night_of b given m).figures
 
 -- remaining lots as opening; all else zero
 abbrev pub opened : Lots → Side
@@ -63,16 +50,11 @@ next_position b m j = position_after (b.position m j)
 
 -- ---- the next book's bytes: head, table of contents, and the three sections
 
-unfoldable pub head_bytes : Head → List ℕ
-head_bytes h =
-    row_bytes (head_fields h)
-    ++ (row_bytes (entry_fields contracts_entry) ++ (row_bytes (entry_fields (members_entry h)) ++ row_bytes (entry_fields (positions_entry h))))
+abbrev pub contract_bytes : Book → Given → ℕ → List ℕ
+contract_bytes b given j = row_bytes (contract_fields (next_contract b given j))
 
-abbrev pub contract_bytes : Book → List ℕ → ℕ → List ℕ
-contract_bytes b ps j = row_bytes (contract_fields (next_contract b ps j))
-
-abbrev pub member_bytes : Book → List ℕ → ℕ → List ℕ
-member_bytes b ps m = row_bytes (member_fields (next_member b ps m))
+abbrev pub member_bytes : Book → Given → ℕ → List ℕ
+member_bytes b given m = row_bytes (member_fields (next_member b given m))
 
 abbrev pub position_bytes : Book → ℕ → ℕ → List ℕ
 position_bytes b m j = row_bytes (position_fields (next_position b m j))
@@ -81,11 +63,11 @@ position_bytes b m j = row_bytes (position_fields (next_position b m j))
 abbrev pub positions_bytes : Book → ℕ → List ℕ
 positions_bytes b m = bytes_to (position_bytes b m) b.head.contracts
 
-unfoldable pub next_bytes : Book → List ℕ → List ℕ
-next_bytes b ps =
+unfoldable pub next_bytes : Book → Given → List ℕ
+next_bytes b given =
     head_bytes b.head
-    ++ (bytes_to (contract_bytes b ps) b.head.contracts
-    ++ (bytes_to (member_bytes b ps) b.head.members ++ bytes_to (positions_bytes b) b.head.members))
+    ++ (bytes_to (contract_bytes b given) b.head.contracts
+    ++ (bytes_to (member_bytes b given) b.head.members ++ bytes_to (positions_bytes b) b.head.members))
 
 -- ---- the results: the nine sheet fields in order, eight bytes each
 
@@ -105,8 +87,8 @@ result_standing t = money_field 48 t.withdrawable ∷ money_field 56 t.call ∷ 
 abbrev pub result_fields : Night → List Field
 result_fields t = result_sums t ++ (result_figures t.figures ++ result_standing t)
 
-abbrev pub result_row : Book → List ℕ → ℕ → List ℕ
-result_row b ps m = row_bytes (result_fields (night_of b ps m))
+abbrev pub result_row : Book → Given → ℕ → List ℕ
+result_row b given m = row_bytes (result_fields (night_of b given m))
 
-unfoldable pub result_bytes : Book → List ℕ → List ℕ
-result_bytes b ps = bytes_to (result_row b ps) b.head.members
+unfoldable pub result_bytes : Book → Given → List ℕ
+result_bytes b given = bytes_to (result_row b given) b.head.members

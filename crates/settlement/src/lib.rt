@@ -18,9 +18,9 @@ pub fn settle(
     next: &mut [u8],
     results: &mut [u8],
 ) -> Result<(), Refusal>
-    ensures value { answered result ≡ settle_answer book.now prices.now (length next.old) (length results.old) }
-    ensures next_after { next.new ≡ next_after book.now prices.now next.old results.old }
-    ensures results_after { results.new ≡ results_after book.now prices.now next.old results.old }
+    ensures value { answered result ≡ settle_answer book.now (record { prices = prices.now }) (length next.old) (length results.old) }
+    ensures next_after { next.new ≡ next_after book.now (record { prices = prices.now }) next.old results.old }
+    ensures results_after { results.new ≡ results_after book.now (record { prices = prices.now }) next.old results.old }
 {
     let book = validity::checked(book).ok_or(Refusal::BadBook)?;
     let evening = Evening::priced(book, prices)?;

@@ -6,9 +6,11 @@ ghost use Rattle.folds.specs.Laid.{bytes_to};
 ghost use Rattle.book.specs.Layout.{head_size, entry_size, contracts_start, members_start, positions_start, position_size, book_length};
 ghost use Rattle.book.specs.Heads.{head_fields, entry_fields};
 ghost use Rattle.book.specs.Rows.{book_of};
-ghost use Rattle.settlement.specs.Next.{next_contract, next_member, opened, position_of, next_position, head_bytes, contract_bytes, member_bytes, positions_bytes, next_bytes};
+ghost use Rattle.tonight.specs.GivenOf.{given_of};
+ghost use Rattle.book.specs.Whole.{head_bytes};
+ghost use Rattle.settlement.specs.Next.{next_contract, next_member, opened, position_of, next_position, contract_bytes, member_bytes, positions_bytes, next_bytes};
 
-use book::contracts::{self, Contract};
+use book::contracts::{self, Contract, Terms};
 use book::heads::Entry;
 use book::layout;
 use book::members::{self, Day, Member};
@@ -56,12 +58,12 @@ fn put_head(evening: &Evening<'_>, next: &mut [u8])
 // Contract j's row: tonight's price as last price. A place in range stays a clause, here and below, as in `Evening`.
 fn next_contract(evening: &Evening<'_>, j: usize) -> Contract
     requires { j < evening.now.rows.head.contracts }
-    ensures { result ≡ next_contract (book_of evening.now.rows) evening.now.prices.now j }
+    ensures { result ≡ next_contract (book_of evening.now.rows) (given_of evening.now) j }
 {
     let c = evening.rows.contract(j);
-    let prices = prices_at(evening.prices, c.last, j);
+    let last = prices_at(evening.prices, c.terms.last, j).tonight;
     Contract {
-        last: prices.tonight,
+        terms: Terms { last, ..c.terms },
         ..c
     }
 }
@@ -69,7 +71,7 @@ fn next_contract(evening: &Evening<'_>, j: usize) -> Contract
 // Member m's row: tonight's figures, and nothing of the day.
 fn next_member(evening: &Evening<'_>, m: usize) -> Member
     requires { m < evening.now.rows.head.members }
-    ensures { result ≡ next_member (book_of evening.now.rows) evening.now.prices.now m }
+    ensures { result ≡ next_member (book_of evening.now.rows) (given_of evening.now) m }
 {
     let r = evening.rows.member(m);
     Member {
@@ -131,7 +133,7 @@ fn put_row(evening: &Evening<'_>, next: &mut [u8], m: usize)
 
 pub fn put_next(evening: &Evening<'_>, next: &mut [u8])
     requires { book_length evening.now.rows.head ≤ length next.old }
-    ensures { next.new ≡ sets next.old 0 (next_bytes (book_of evening.now.rows) evening.now.prices.now) }
+    ensures { next.new ≡ sets next.old 0 (next_bytes (book_of evening.now.rows) (given_of evening.now)) }
 {
     let h = evening.rows.head;
     put_head(evening, next);

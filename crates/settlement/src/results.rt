@@ -3,6 +3,7 @@ ghost use Rattle.std.specs.Prelude.{◌≡◌, ◌+◌, ◌*◌, ◌≤◌, leng
 ghost use Rattle.std.proofs.lemmas.List.Edits.{sets};
 ghost use Rattle.folds.specs.Rows.{row_bytes, put_fields};
 ghost use Rattle.book.specs.Rows.{book_of};
+ghost use Rattle.tonight.specs.GivenOf.{given_of};
 ghost use Rattle.settlement.specs.Next.{result_size, result_sums, result_figures, result_standing, result_fields, result_bytes};
 
 use rules::units::Figures;
@@ -75,7 +76,7 @@ fn put_night(results: &mut [u8], off: usize, t: Night)
 #[tactic(auto, unfolding(crate::specs::Next::result_bytes))]
 pub fn put_results(evening: &Evening<'_>, results: &mut [u8])
     requires { evening.now.rows.head.members * result_size ≤ length results.old }
-    ensures { results.new ≡ sets results.old 0 (result_bytes (book_of evening.now.rows) evening.now.prices.now) }
+    ensures { results.new ≡ sets results.old 0 (result_bytes (book_of evening.now.rows) (given_of evening.now)) }
 {
     for m in 0..evening.rows.head.members {
         put_night(results, m * RESULT, evening.night(m));

@@ -20,7 +20,7 @@ use Rattle.rules.specs.declared.units.Movements.{Movements}
 use Rattle.rules.specs.Securities.{discounted_of}
 use Rattle.rules.proofs.Bounds.{profit_in, fee_in, margin_in, discounted_in, figures_tonight_in}
 use Rattle.book.specs.declared.heads.Head.{Head}
-use Rattle.book.specs.declared.contracts.Contract.{Contract}
+use Rattle.book.specs.declared.contracts.Terms.{Terms}
 use Rattle.book.specs.declared.members.Member.{Member}
 use Rattle.book.specs.declared.positions.Position.{Position}
 use Rattle.book.specs.Positions.{opening_of, held_sides, paired_of}
@@ -30,6 +30,7 @@ use Rattle.validity.specs.InRange.{MemberIn}
 use Rattle.validity.proofs.Facts.{position_in, traded_most}
 use Rattle.validity.proofs.RowTests.{contract_in_lem}
 use Rattle.validity.proofs.Fits.{deposits_most, withdrawals_most}
+use Rattle.tonight.specs.Given.{Given}
 use Rattle.tonight.specs.Prices.{pair_size, tonight_at, delivery_at, prices_by, none_paired, pair_tests, pair_ok, prices_ok}
 use Rattle.tonight.specs.Night.{Tally, tally_by, figures_after}
 use Rattle.tonight.specs.Evening.{Priced, Evening, RowsIn, TallyFew}
@@ -49,15 +50,15 @@ priced b ps e =
       delivery = λ j l. leb-true (delivery_at ps j).0 10_000_000 (tests j l 1);
     }
 
-pub rows_in : (xs ps : List ℕ) (h : Head) → Evening xs ps h → (m j : ℕ) → m < h.members → j < h.contracts →
-    RowsIn ((book_by h xs).contract j) ((book_by h xs).position m j) (prices_by ((book_by h xs).contract j).last ps j)
-rows_in xs ps h e m j l q =
-    let c = contract_in_lem (book_by h xs) e.ranged j q in
+pub rows_in : (xs : List ℕ) (given : Given) (h : Head) → Evening xs given h → (m j : ℕ) → m < h.members → j < h.contracts →
+    RowsIn ((book_by h xs).contract j).terms ((book_by h xs).position m j) (prices_by ((book_by h xs).contract j).terms.last given.prices j)
+rows_in xs given h e m j l q =
+    let terms = (contract_in_lem (book_by h xs) e.ranged j q).terms in
     record {
-      contract = c;
+      terms = terms;
       position = position_in (book_by h xs) e.ranged m j l q;
       traded = traded_most (book_by h xs) e.ranged m j l q;
-      evening = record { last_in = c.last; tonight_in = e.priced.tonight j q; delivery_in = e.priced.delivery j q };
+      evening = record { last_in = terms.last; tonight_in = e.priced.tonight j q; delivery_in = e.priced.delivery j q };
     }
 
 -- ---- what the rules ask
@@ -68,10 +69,10 @@ paired_held p h = record { long = h.long.paired; short = h.short.paired }
 paired_in : (p : Position) → PositionIn p → SidesIn (paired_of p)
 paired_in p h = record { long_in = le_trans h.long.paired h.long.held; short_in = le_trans h.short.paired h.short.held }
 
-module _ (c : Contract) (p : Position) (prices : Prices) (h : RowsIn c p prices) where
-  pub profit_asks : ProfitIn c.multiplier p.cash (held_sides p) (opening_of p) (paired_of p) prices
+module _ (t : Terms) (p : Position) (prices : Prices) (h : RowsIn t p prices) where
+  pub profit_asks : ProfitIn t.multiplier p.cash (held_sides p) (opening_of p) (paired_of p) prices
   profit_asks = record {
-    multiplier_in = h.contract.multiplier;
+    multiplier_in = h.terms.multiplier;
     cash_in = h.position.cash;
     held_in = record { long_in = h.position.long.held; short_in = h.position.short.held };
     opening_in = record { long_in = h.position.long.opening; short_in = h.position.short.opening };
@@ -79,22 +80,22 @@ module _ (c : Contract) (p : Position) (prices : Prices) (h : RowsIn c p prices)
     prices_in = h.evening;
   }
 
-  pub fee_asks : FeeIn p.traded (paired_of p) c.fee c.delivery
-  fee_asks = record { traded_in = h.traded; paired_in = paired_in p h.position; trade_fee_in = h.contract.fee; delivery_fee_in = h.contract.delivery }
+  pub fee_asks : FeeIn p.traded (paired_of p) t.fee t.delivery
+  fee_asks = record { traded_in = h.traded; paired_in = paired_in p h.position; trade_fee_in = h.terms.fee; delivery_fee_in = h.terms.delivery }
 
-  pub margin_asks : MarginIn (larger_side_of (remaining_of (held_sides p) (paired_of p))) prices.tonight c.multiplier c.rate
+  pub margin_asks : MarginIn (larger_side_of (remaining_of (held_sides p) (paired_of p))) prices.tonight t.multiplier t.rate
   margin_asks = record {
     charged_in = omega (arith, h.position.long.held, h.position.short.held);
     price_in = h.evening.tonight_in;
-    multiplier_in = h.contract.multiplier;
-    rate_in = h.contract.rate;
+    multiplier_in = h.terms.multiplier;
+    rate_in = h.terms.rate;
   }
 
-  pub tally_one : TallyFew 1 (tally_by c p prices)
+  pub tally_one : TallyFew 1 (tally_by t p prices)
   tally_one = record {
-    profit = profit_in c.multiplier p.cash (held_sides p) (opening_of p) (paired_of p) prices profit_asks;
-    fee = fee_in p.traded (paired_of p) c.fee c.delivery fee_asks;
-    margin = margin_in (larger_side_of (remaining_of (held_sides p) (paired_of p))) prices.tonight c.multiplier c.rate margin_asks;
+    profit = profit_in t.multiplier p.cash (held_sides p) (opening_of p) (paired_of p) prices profit_asks;
+    fee = fee_in p.traded (paired_of p) t.fee t.delivery fee_asks;
+    margin = margin_in (larger_side_of (remaining_of (held_sides p) (paired_of p))) prices.tonight t.multiplier t.rate margin_asks;
   }
 
 -- ---- tonight's figures

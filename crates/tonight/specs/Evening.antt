@@ -4,12 +4,13 @@ use Rattle.numbers.specs.Range.{In}
 use Rattle.rules.specs.declared.units.Prices.{Prices}
 use Rattle.rules.specs.Ranges.{Amount, PricesIn}
 use Rattle.book.specs.declared.heads.Head.{Head}
-use Rattle.book.specs.declared.contracts.Contract.{Contract}
+use Rattle.book.specs.declared.contracts.Terms.{Terms}
 use Rattle.book.specs.declared.positions.Position.{Position}
 use Rattle.book.specs.Books.{book_by}
 use Rattle.book.specs.Accounts.{Shaped}
 use Rattle.validity.specs.Totals.{Ranged, PositionIn}
-use Rattle.validity.specs.InRange.{ContractIn}
+use Rattle.validity.specs.InRange.{TermsIn}
+use Rattle.tonight.specs.Given.{Given}
 use Rattle.tonight.specs.Prices.{pair_size, tonight_at, delivery_at}
 use Rattle.tonight.specs.Night.{Tally}
 
@@ -18,14 +19,14 @@ pub record Priced (h : Head) (ps : List ℕ) : Type 0 where
   pub tonight : (j : ℕ) → j < h.contracts → (tonight_at ps j).0 ≤ 10_000_000
   pub delivery : (j : ℕ) → j < h.contracts → (delivery_at ps j).0 ≤ 10_000_000
 
-pub record Evening (xs ps : List ℕ) (h : Head) : Type 0 where
+pub record Evening (xs : List ℕ) (given : Given) (h : Head) : Type 0 where
   pub shaped : Shaped xs h
   pub ranged : Ranged (book_by h xs)
-  pub priced : Priced h ps
+  pub priced : Priced h given.prices
 
 -- what one contract's tally is computed from
-pub record RowsIn (c : Contract) (p : Position) (prices : Prices) : Type 0 where
-  pub contract : ContractIn c
+pub record RowsIn (t : Terms) (p : Position) (prices : Prices) : Type 0 where
+  pub terms : TermsIn t
   pub position : PositionIn p
   pub traded : p.traded.0 ≤ 200_000_000
   pub evening : PricesIn prices

@@ -1,5 +1,5 @@
--- 01, Evening settlement: a member's night, from the book and the evening's prices.
-use Rattle.std.specs.Prelude.{ℕ, ◌^◌, Bool, List, ◌+ℤ◌, pos}
+-- 01, Evening settlement: a member's night, from the book and what settlement is given.
+use Rattle.std.specs.Prelude.{ℕ, ◌^◌, Bool, ◌+ℤ◌, pos}
 use Rattle.numbers.specs.Sum.{total_to}
 use Rattle.folds.specs.Tests.{all_to}
 use Rattle.rules.specs.declared.units.Fen.{Fen}
@@ -13,12 +13,13 @@ use Rattle.rules.specs.Margin.{remaining_of, larger_side_of, margin_of}
 use Rattle.rules.specs.Profit.{profit_of}
 use Rattle.rules.specs.Fee.{fee_of}
 use Rattle.rules.specs.Night.{figures_tonight_of}
-use Rattle.book.specs.declared.contracts.Contract.{Contract}
+use Rattle.book.specs.declared.contracts.Terms.{Terms}
 use Rattle.book.specs.declared.members.Member.{Member}
 use Rattle.book.specs.declared.positions.Position.{Position}
 use Rattle.book.specs.Positions.{opening_of, held_sides, paired_of}
 use Rattle.book.specs.Books.{Book}
 use Rattle.validity.specs.Valid.{about_zero}
+use Rattle.tonight.specs.Given.{Given}
 use Rattle.tonight.specs.Prices.{prices_by}
 pub use Rattle.tonight.specs.declared.tallies.Tally.{Tally}
 pub use Rattle.tonight.specs.declared.nights.Night.{Night}
@@ -26,22 +27,22 @@ pub use Rattle.tonight.specs.declared.nights.Night.{Night}
 -- ---- one member in one contract
 
 -- 000, articles 31 and 50
-abbrev pub profit_by : Contract → Position → Prices → Fen
-profit_by c p prices = profit_of c.multiplier p.cash (held_sides p) (opening_of p) (paired_of p) prices
+abbrev pub profit_by : Terms → Position → Prices → Fen
+profit_by t p prices = profit_of t.multiplier p.cash (held_sides p) (opening_of p) (paired_of p) prices
 
 -- 000, articles 27 and 47
-abbrev pub fee_by : Contract → Position → Fen
-fee_by c p = fee_of p.traded (paired_of p) c.fee c.delivery
+abbrev pub fee_by : Terms → Position → Fen
+fee_by t p = fee_of p.traded (paired_of p) t.fee t.delivery
 
 -- on the larger side of the remaining lots, at tonight's price: 000, articles 25 and 26
-abbrev pub margin_by : Contract → Position → Prices → Fen
-margin_by c p prices = margin_of (larger_side_of (remaining_of (held_sides p) (paired_of p))) prices.tonight c.multiplier c.rate
+abbrev pub margin_by : Terms → Position → Prices → Fen
+margin_by t p prices = margin_of (larger_side_of (remaining_of (held_sides p) (paired_of p))) prices.tonight t.multiplier t.rate
 
-abbrev pub tally_by : Contract → Position → Prices → Tally
-tally_by c p prices = record { profit = profit_by c p prices; fee = fee_by c p; margin = margin_by c p prices }
+abbrev pub tally_by : Terms → Position → Prices → Tally
+tally_by t p prices = record { profit = profit_by t p prices; fee = fee_by t p; margin = margin_by t p prices }
 
-unfoldable pub tally_in : Book → List ℕ → ℕ → ℕ → Tally
-tally_in b ps m j = tally_by (b.contract j) (b.position m j) (prices_by (b.contract j).last ps j)
+unfoldable pub tally_in : Book → Given → ℕ → ℕ → Tally
+tally_in b given m j = tally_by (b.contract j).terms (b.position m j) (prices_by (b.contract j).terms.last given.prices j)
 
 -- ---- one member over its contracts
 
@@ -56,11 +57,11 @@ abbrev pub no_tally : Tally
 no_tally = record { profit = fen (pos 0); fee = fen (pos 0); margin = fen (pos 0) }
 
 -- the totals over the first k contracts
-unfoldable pub tally_to : Book → List ℕ → ℕ → ℕ → Tally
-tally_to b ps m k = record {
-  profit = fen (total_to (λ (j : ℕ). (tally_in b ps m j).profit.0) k);
-  fee = fen (total_to (λ (j : ℕ). (tally_in b ps m j).fee.0) k);
-  margin = fen (total_to (λ (j : ℕ). (tally_in b ps m j).margin.0) k);
+unfoldable pub tally_to : Book → Given → ℕ → ℕ → Tally
+tally_to b given m k = record {
+  profit = fen (total_to (λ (j : ℕ). (tally_in b given m j).profit.0) k);
+  fee = fen (total_to (λ (j : ℕ). (tally_in b given m j).fee.0) k);
+  margin = fen (total_to (λ (j : ℕ). (tally_in b given m j).margin.0) k);
 }
 
 -- ---- tonight's figures and the sheet's nine fields
@@ -86,9 +87,9 @@ night_by m r t figures = record {
 abbrev pub night_after : ℕ → Member → Tally → Night
 night_after m r t = night_by m r t (figures_after r t)
 
-unfoldable pub night_of : Book → List ℕ → ℕ → Night
-night_of b ps m = night_after m (b.member m) (tally_to b ps m b.head.contracts)
+unfoldable pub night_of : Book → Given → ℕ → Night
+night_of b given m = night_after m (b.member m) (tally_to b given m b.head.contracts)
 
 -- every member's reserve tonight in −10^15..10^15: 01, refusal 9
-unfoldable pub reserves_ok : Book → List ℕ → Bool
-reserves_ok b ps = all_to (λ (m : ℕ). about_zero (10 ^ 15) (night_of b ps m).figures.reserve) b.head.members
+unfoldable pub reserves_ok : Book → Given → Bool
+reserves_ok b given = all_to (λ (m : ℕ). about_zero (10 ^ 15) (night_of b given m).figures.reserve) b.head.members

@@ -2,6 +2,7 @@
 use Rattle.std.specs.Prelude.{ℕ, ◌+◌, ◌*◌, Bool, ◌&&◌, ◌||◌, List, [], ◌∷◌, leb, eqb, length}
 use Rattle.wire.specs.LittleEndian.{number_at}
 use Rattle.folds.specs.Tests.{all_to, all_of, between}
+use Rattle.folds.specs.Rows.{Field, field}
 use Rattle.rules.specs.declared.units.Price.{Price}
 use Rattle.rules.specs.declared.units.Prices.{Prices}
 use Rattle.rules.specs.Units.{price}
@@ -21,6 +22,10 @@ tonight_at ps j = price (number_at ps (j * pair_size) 4)
 
 abbrev pub delivery_at : List ℕ → ℕ → Price
 delivery_at ps j = price (number_at ps (j * pair_size + delivery_off) 4)
+
+-- a pair as it is written
+abbrev pub pair_fields : (tonight delivery : Price) → List Field
+pair_fields tonight delivery = field 0 4 tonight.0 ∷ field delivery_off 4 delivery.0 ∷ []
 
 -- contract j's prices in the evening, with the last settlement price
 abbrev pub prices_by : Price → List ℕ → ℕ → Prices

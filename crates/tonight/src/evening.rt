@@ -26,6 +26,8 @@ pub struct Evening<'a> {
 
 // A place in range stays a clause: it speaks of the place and the book.
 impl<'a> Evening<'a> {
+    ghost use Rattle.tonight.specs.GivenOf.{given_of};
+
     /// The evening of the book at the prices; refused where the prices are not right for it.
     pub fn priced(book: RangedRows<'a>, prices: &'a [u8]) -> Result<Evening<'a>, Refusal>
         ensures right { IsOk result ↔ (prices_ok (book_of book.entry.rows) prices.now ≡ true) }
@@ -45,17 +47,17 @@ impl<'a> Evening<'a> {
     // One member in one contract.
     fn tally_in(&self, m: usize, j: usize) -> Tally
         requires { (m < self.now.rows.head.members) × (j < self.now.rows.head.contracts) }
-        ensures { result ≡ tally_in (book_of self.now.rows) self.now.prices.now m j }
+        ensures { result ≡ tally_in (book_of self.now.rows) (given_of self.now) m j }
     {
-        let c = self.rows.contract(j);
+        let terms = self.rows.contract(j).terms;
         let p = self.rows.position(m, j);
-        contract_tally(c, p, prices_at(self.prices, c.last, j))
+        contract_tally(terms, p, prices_at(self.prices, terms.last, j))
     }
 
     /// One member over all contracts.
     pub fn tally(&self, m: usize) -> Tally
         requires { m < self.now.rows.head.members }
-        ensures { result ≡ tally_to (book_of self.now.rows) self.now.prices.now m self.now.rows.head.contracts }
+        ensures { result ≡ tally_to (book_of self.now.rows) (given_of self.now) m self.now.rows.head.contracts }
     {
         let mut t = Tally::default();
         for j in 0..self.rows.head.contracts {
@@ -66,14 +68,14 @@ impl<'a> Evening<'a> {
 
     pub fn night(&self, m: usize) -> Night
         requires { m < self.now.rows.head.members }
-        ensures { result ≡ night_of (book_of self.now.rows) self.now.prices.now m }
+        ensures { result ≡ night_of (book_of self.now.rows) (given_of self.now) m }
     {
         night_after(m, self.rows.member(m), self.tally(m))
     }
 
     /// Whether every member's reserve tonight is in its range.
     pub fn reserves_ok(&self) -> bool
-        ensures { result ≡ reserves_ok (book_of self.now.rows) self.now.prices.now }
+        ensures { result ≡ reserves_ok (book_of self.now.rows) (given_of self.now) }
     {
         (0..self.rows.head.members).all(|m| about_zero(
             self.night(m).figures.reserve,

@@ -3,7 +3,7 @@ ghost use Rattle.std.specs.Prelude.{◌≡◌};
 ghost use Rattle.tonight.specs.Night.{tally_by, add_tally};
 ghost use Rattle.tonight.specs.Evening.{RowsIn, TallyFew};
 
-use book::contracts::Contract;
+use book::contracts::Terms;
 use book::positions::Position;
 use rules::units::{Fen, Prices};
 use validity::sides::{held_sides, opening_sides, paired_sides};
@@ -30,17 +30,29 @@ impl Tally {
 }
 
 /// One member in one contract.
-pub fn contract_tally(c: Contract, p: Position, prices: Prices) -> Tally
-    requires { RowsIn c p prices }
-    ensures { result ≡ tally_by c p prices }
+pub fn contract_tally(terms: Terms, p: Position, prices: Prices) -> Tally
+    requires { RowsIn terms p prices }
+    ensures { result ≡ tally_by terms p prices }
 {
     let held = held_sides(p);
     let opening = opening_sides(p);
     let paired = paired_sides(p);
     let charged = rules::margin::larger_side(rules::margin::remaining(held, paired));
     Tally {
-        profit: rules::profit::contract_profit(c.multiplier, p.cash, held, opening, paired, prices),
-        fee: rules::fee::contract_fee(p.traded, paired, c.fee, c.delivery),
-        margin: rules::margin::contract_margin(charged, prices.tonight, c.multiplier, c.rate),
+        profit: rules::profit::contract_profit(
+            terms.multiplier,
+            p.cash,
+            held,
+            opening,
+            paired,
+            prices,
+        ),
+        fee: rules::fee::contract_fee(p.traded, paired, terms.fee, terms.delivery),
+        margin: rules::margin::contract_margin(
+            charged,
+            prices.tonight,
+            terms.multiplier,
+            terms.rate,
+        ),
     }
 }

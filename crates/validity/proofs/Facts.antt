@@ -14,7 +14,7 @@ use Rattle.folds.specs.Tests.{all_of, between}
 use Rattle.folds.proofs.Tests.{all_at, each, between_low, between_high}
 use Rattle.book.specs.declared.positions.Side.{Side}
 use Rattle.book.specs.declared.positions.Position.{Position}
-use Rattle.book.specs.Layout.{head_size, book_length}
+use Rattle.book.specs.Layout.{head_size, most_members, most_contracts, book_length}
 use Rattle.book.specs.Heads.{head_at, total_of}
 use Rattle.book.specs.Positions.{held_of}
 use Rattle.book.specs.Books.{Book, book_at}
@@ -29,18 +29,18 @@ pub has_contract : (xs : List ℕ) → head_ok xs ≡ true → 0 < (head_at xs).
 unfolding head_ok
 has_contract xs e =
     let counts = each (head_tests xs) e 1 in
-    let k = (and_parts (between 1 32 (head_at xs).members) (between 1 32 (head_at xs).contracts) counts).1 in
-    omega (arith, between_low 1 32 (head_at xs).contracts k)
+    let k = (and_parts (between 1 most_members (head_at xs).members) (between 1 most_contracts (head_at xs).contracts) counts).1 in
+    omega (arith, between_low 1 most_contracts (head_at xs).contracts k)
 
 pub head_shaped : (xs : List ℕ) → head_ok xs ≡ true → Shaped xs (head_at xs)
 unfolding head_ok
 head_shaped xs e =
     let counts = each (head_tests xs) e 1 in
-    let n = (and_parts (between 1 32 (head_at xs).members) (between 1 32 (head_at xs).contracts) counts).0 in
-    let k = (and_parts (between 1 32 (head_at xs).members) (between 1 32 (head_at xs).contracts) counts).1 in
+    let n = (and_parts (between 1 most_members (head_at xs).members) (between 1 most_contracts (head_at xs).contracts) counts).0 in
+    let k = (and_parts (between 1 most_members (head_at xs).members) (between 1 most_contracts (head_at xs).contracts) counts).1 in
     record {
-      members = between_high 1 32 (head_at xs).members n;
-      contracts = between_high 1 32 (head_at xs).contracts k;
+      members = between_high 1 most_members (head_at xs).members n;
+      contracts = between_high 1 most_contracts (head_at xs).contracts k;
       enough = omega (arith, eqb-true (length xs) (total_of xs) (each (head_tests xs) e 4), eqb-true (total_of xs) (book_length (head_at xs)) (each (head_tests xs) e 2));
     }
 

@@ -14,11 +14,13 @@ use Rattle.validity.specs.InRange.{ContractIn, MemberIn, PositionIs}
 
 pub contract_fits : (c : Contract) → ContractIn c → ContractFits c
 contract_fits c i = record {
-  last = omega (arith, i.last);
-  multiplier = omega (arith, i.multiplier);
-  rate = omega (arith, i.rate);
-  fee = omega (arith, i.fee);
-  delivery = omega (arith, i.delivery);
+  terms = record {
+    last = omega (arith, i.terms.last);
+    multiplier = omega (arith, i.terms.multiplier);
+    rate = omega (arith, i.terms.rate);
+    fee = omega (arith, i.terms.fee);
+    delivery = omega (arith, i.terms.delivery);
+  };
   zero = omega (arith, i.zero);
 }
 

@@ -50,11 +50,13 @@ pub contract_is : (c : Contract) → all_of (contract_tests c) ≡ true → Cont
 contract_is c e =
     let t = each (contract_tests c) e in
     record {
-      last = between_high 1 10_000_000 c.last.0 (t 0);
-      multiplier = between_high 1 100 c.multiplier (t 1);
-      rate = between_high 1 10_000 c.rate (t 2);
-      fee = leb-true c.fee 100_000 (t 3);
-      delivery = leb-true c.delivery 100_000 (t 4);
+      terms = record {
+        last = between_high 1 10_000_000 c.terms.last.0 (t 0);
+        multiplier = between_high 1 100 c.terms.multiplier (t 1);
+        rate = between_high 1 10_000 c.terms.rate (t 2);
+        fee = leb-true c.terms.fee 100_000 (t 3);
+        delivery = leb-true c.terms.delivery 100_000 (t 4);
+      };
       zero = eqb-true c.zero 0 (t 5);
     }
 

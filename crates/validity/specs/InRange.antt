@@ -2,17 +2,21 @@
 use Rattle.std.specs.Prelude.{◌*◌, ◌^◌, ◌≤◌, ◌≡◌}
 use Rattle.numbers.specs.Range.{In}
 use Rattle.rules.specs.Ranges.{Amount}
+use Rattle.book.specs.declared.contracts.Terms.{Terms}
 use Rattle.book.specs.declared.contracts.Contract.{Contract}
 use Rattle.book.specs.declared.members.Member.{Member}
 use Rattle.book.specs.declared.positions.Position.{Position}
 use Rattle.validity.specs.Totals.{SideIn}
 
+pub record TermsIn (t : Terms) : Type 0 where
+  pub last : t.last.0 ≤ 10_000_000
+  pub multiplier : t.multiplier ≤ 100
+  pub rate : t.rate ≤ 10_000
+  pub fee : t.fee ≤ 100_000
+  pub delivery : t.delivery ≤ 100_000
+
 pub record ContractIn (c : Contract) : Type 0 where
-  pub last : c.last.0 ≤ 10_000_000
-  pub multiplier : c.multiplier ≤ 100
-  pub rate : c.rate ≤ 10_000
-  pub fee : c.fee ≤ 100_000
-  pub delivery : c.delivery ≤ 100_000
+  pub terms : TermsIn c.terms
   pub zero : c.zero ≡ 0
 
 pub record MemberIn (r : Member) : Type 0 where

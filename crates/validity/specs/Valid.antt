@@ -12,7 +12,7 @@ use Rattle.book.specs.declared.contracts.Contract.{Contract}
 use Rattle.book.specs.declared.members.Member.{Member}
 use Rattle.book.specs.declared.positions.Side.{Side}
 use Rattle.book.specs.declared.positions.Position.{Position}
-use Rattle.book.specs.Layout.{head_size, book_length, longest_book}
+use Rattle.book.specs.Layout.{head_size, most_members, most_contracts, book_length, longest_book}
 use Rattle.book.specs.Heads.{head_at, total_of, entry_at, entry_off, contracts_entry, members_entry, positions_entry}
 use Rattle.book.specs.Positions.{held_of, opening_of, held_sides, paired_of}
 use Rattle.book.specs.Books.{Book, book_at}
@@ -20,7 +20,7 @@ use Rattle.book.specs.Books.{Book, book_at}
 -- ---- the head, the table of contents and the lengths
 
 abbrev pub counts_ok : Head → Bool
-counts_ok h = between 1 32 h.members && between 1 32 h.contracts
+counts_ok h = between 1 most_members h.members && between 1 most_contracts h.contracts
 
 abbrev pub same_entry : Entry → Entry → Bool
 same_entry e f = all_of (eqb e.section f.section ∷ eqb e.size f.size ∷ eqb e.start f.start ∷ [])
@@ -59,11 +59,11 @@ about_zero most amount = leb (nat_abs amount.0) most
 -- section 1
 abbrev pub contract_tests : Contract → List Bool
 contract_tests c =
-    between 1 10_000_000 c.last.0
-    ∷ between 1 100 c.multiplier
-    ∷ between 1 10_000 c.rate
-    ∷ leb c.fee 100_000
-    ∷ leb c.delivery 100_000
+    between 1 10_000_000 c.terms.last.0
+    ∷ between 1 100 c.terms.multiplier
+    ∷ between 1 10_000 c.terms.rate
+    ∷ leb c.terms.fee 100_000
+    ∷ leb c.terms.delivery 100_000
     ∷ eqb c.zero 0
     ∷ []
 

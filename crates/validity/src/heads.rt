@@ -1,7 +1,7 @@
 // Whether the head, the contents and the length are right, and the rows where they are.
 ghost use Rattle.std.specs.Prelude.{◌≡◌, ◌↔◌, ◌≤◌, true, length, IfSome, IsSome};
 ghost use Rattle.book.specs.Heads.{head_at};
-ghost use Rattle.book.specs.Layout.{head_size};
+ghost use Rattle.book.specs.Layout.{head_size, most_members, most_contracts};
 ghost use Rattle.validity.specs.Valid.{counts_ok, contents_ok, head_ok};
 
 use book::heads::Head;
@@ -11,11 +11,12 @@ use book::lent::Rows;
 fn counts_ok(h: Head) -> bool
     ensures { result ≡ counts_ok h }
 {
-    (1..=32).contains(&h.members) & (1..=32).contains(&h.contracts)
+    (1..=layout::MOST_MEMBERS).contains(&h.members)
+        & (1..=layout::MOST_CONTRACTS).contains(&h.contracts)
 }
 
 fn contents_ok(s: &[u8], h: Head) -> bool
-    requires { (head_size ≤ length s.now) × (h.members ≤ 32) × (h.contracts ≤ 32) }
+    requires { (head_size ≤ length s.now) × (h.members ≤ most_members) × (h.contracts ≤ most_contracts) }
     ensures { result ≡ contents_ok h s.now }
 {
     (book::heads::entry_at(s, layout::CONTENTS) == h.contracts_entry())

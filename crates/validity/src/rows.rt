@@ -21,11 +21,11 @@ fn between(number: u32, least: u32, most: u32) -> bool
 fn contract_ok(c: Contract) -> bool
     ensures { result ≡ all_of (contract_tests c) }
 {
-    between(c.last.0, 1, 10_000_000)
-        & between(c.multiplier, 1, 100)
-        & between(c.rate, 1, 10_000)
-        & (c.fee <= 100_000)
-        & (c.delivery <= 100_000)
+    between(c.terms.last.0, 1, 10_000_000)
+        & between(c.terms.multiplier, 1, 100)
+        & between(c.terms.rate, 1, 10_000)
+        & (c.terms.fee <= 100_000)
+        & (c.terms.delivery <= 100_000)
         & (c.zero == 0)
 }
 

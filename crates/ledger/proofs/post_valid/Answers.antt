@@ -3,8 +3,8 @@ use Rattle.std.proofs.Common.{sym, ap, subst, ◌∙◌}
 use Rattle.std.specs.Prelude.{Option}
 use Rattle.book.specs.declared.heads.Head.{Head}
 use Rattle.validity.proofs.Facts.{head_room, valid_head}
-use Rattle.posting.specs.declared.records.Request.{Request}
-use Rattle.posting.specs.Records.{request_of}
+use Rattle.requests.specs.declared.records.Request.{Request}
+use Rattle.requests.specs.Records.{request_of}
 use Rattle.ledger.proofs.InRange.{AskedIn, request_in}
 use Rattle.ledger.specs.Puts.{says_to, step_to}
 use Rattle.ledger.proofs.post_valid.Goals as goal

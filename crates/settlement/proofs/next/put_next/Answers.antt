@@ -7,6 +7,7 @@ use Rattle.book.specs.ContractRows.{put_contract}
 use Rattle.book.specs.Members.{put_member}
 use Rattle.book.specs.Rows.{book_of}
 use Rattle.book.proofs.Places.{head_within, contract_within, member_within}
+use Rattle.tonight.specs.GivenOf.{given_of}
 use Rattle.settlement.specs.Next.{contract_bytes, member_bytes, positions_bytes}
 use Rattle.settlement.proofs.Parts.{next_parts}
 use Rattle.settlement.proofs.Sizes.{contract_size_lem, member_size_lem, positions_size}
@@ -30,7 +31,7 @@ loop-j-preserved c =
     let e = c.args.evening.now in
     let b = book_of e.rows in
     rw (c.put_contract.ensures, c.loop-j.invariant, c.contract_off.ensures, c.next_contract.ensures)
-    (sets_step c.put_head.new.next contracts_start contract_size (contract_bytes b e.prices.now) (contract_size_lem b e.prices.now) c.loop-j.j)
+    (sets_step c.put_head.new.next contracts_start contract_size (contract_bytes b (given_of e)) (contract_size_lem b (given_of e)) c.loop-j.j)
 
 -- ---- members
 
@@ -47,7 +48,7 @@ loop-m-preserved c =
     let e = c.args.evening.now in
     let b = book_of e.rows in
     rw (c.put_member.ensures, c.loop-m.invariant, c.member_off.ensures, c.next_member.ensures)
-    (sets_step c.loop-j.next (members_start b.head) member_size (member_bytes b e.prices.now) (member_size_lem b e.prices.now) c.loop-m.m)
+    (sets_step c.loop-j.next (members_start b.head) member_size (member_bytes b (given_of e)) (member_size_lem b (given_of e)) c.loop-m.m)
 
 -- ---- positions, as many rows to a member as there are contracts
 
@@ -64,8 +65,8 @@ pub returns : goal.returns
 returns c =
     let e = c.args.evening.now in
     let b = book_of e.rows in
-    let ps = e.prices.now in
+    let given = given_of e in
     let contracts : c.loop-j.j ≡ b.head.contracts = omega arith in
     let members : c.loop-m.m ≡ b.head.members = omega arith in
     let positions : c.loop-m-2.m ≡ b.head.members = omega arith in
-    cc (next_parts b ps c.args.next.now)
+    cc (next_parts b given c.args.next.now)

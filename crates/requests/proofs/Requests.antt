@@ -16,17 +16,17 @@ use Rattle.rules.proofs.Bounds.{amount}
 use Rattle.book.specs.declared.heads.Head.{Head}
 use Rattle.book.specs.declared.accounts.Place.{Place}
 use Rattle.book.specs.Accounts.{Within}
-use Rattle.posting.specs.declared.records.Record.{Record}
+use Rattle.requests.specs.declared.records.Record.{Record}
 use Rattle.std.specs.Prelude.{Option, Some, None}
 use Rattle.std.proofs.lemmas.Bool.{cond_both}
-use Rattle.posting.specs.declared.records.Mark.{Mark}
-use Rattle.posting.specs.declared.records.Trade.{Trade}
-use Rattle.posting.specs.declared.records.Pairing.{Pairing}
-use Rattle.posting.specs.declared.records.Payment.{Payment}
-use Rattle.posting.specs.declared.records.Pledge.{Pledge}
-use Rattle.posting.specs.declared.records.Request.{Request}
-use Rattle.posting.specs.declared.records.Request.TheVariants.{Trading, PairingUp, Depositing, Withdrawing, Pledging}
-use Rattle.posting.specs.Records.{record_size, record_at, read_mark, trade_tests, pairing_tests, payment_tests, pledge_tests, trade_by, payment, read_trade, read_pairing, read_deposit, read_withdrawal, read_pledge, read_kind, request_of, names_of, contract_of, places_in, places_for}
+use Rattle.requests.specs.declared.records.Mark.{Mark}
+use Rattle.requests.specs.declared.records.Trade.{Trade}
+use Rattle.requests.specs.declared.records.Pairing.{Pairing}
+use Rattle.requests.specs.declared.records.Payment.{Payment}
+use Rattle.requests.specs.declared.records.Pledge.{Pledge}
+use Rattle.requests.specs.declared.records.Request.{Request}
+use Rattle.requests.specs.declared.records.Request.TheVariants.{Trading, PairingUp, Depositing, Withdrawing, Pledging}
+use Rattle.requests.specs.Records.{record_size, record_at, read_mark, trade_tests, pairing_tests, payment_tests, pledge_tests, trade_by, payment, read_trade, read_pairing, read_deposit, read_withdrawal, read_pledge, read_kind, request_of, names_of, contract_of, places_in, places_for}
 
 -- n lots of contract j, the buyer m and the seller m'
 pub record Parties (h : Head) (j m m' n : ℕ) : Type 0 where

@@ -39,14 +39,14 @@ use denote.Triple.Walked.{says, needs, Stays, stay_ref, stay_none, walk_of, AllG
 use denote.Exit.{yes}
 use Rattle.book.specs.declared.accounts.Account.{Account}
 use Rattle.posting.specs.declared.accounts.Entry.{Entry}
-use Rattle.posting.specs.declared.accounts.Posted.{Posted}
+use Rattle.lending.specs.declared.Posted.{Posted}
 use Rattle.posting.specs.Ranges.{PostedIn}
 use Rattle.posting.specs.contracts.accounts.Entry as Q
 use Rattle.posting.proofs.accounts.Entry.TheLaws as Q'
 use Rattle.book.specs.contracts.accounts.Account as T
 use Rattle.book.proofs.accounts.Account.TheLaws as T'
-use Rattle.posting.specs.contracts.accounts.Posted as S
-use Rattle.posting.proofs.accounts.Posted.TheLaws as S'
+use Rattle.lending.specs.contracts.Posted as S
+use Rattle.lending.proofs.Posted.TheLaws as S'
 
 -- the machine values of an account, an entry and what a posting makes of them
 abbrev pub account_val : Account → Val

@@ -2,21 +2,22 @@
 use Rattle.std.specs.Prelude.{ℕ, ◌^◌, ◌≡◌, Bool, cond, not, ◌&&◌, List, [], ◌∷◌, leb, ltb, eqb, pos, length, get_or, Option, Some, None, Result, MatchResult}
 use Rattle.wire.specs.LittleEndian.{number_at}
 use Rattle.folds.specs.Tests.{all_of, between}
+use Rattle.folds.specs.Rows.{Field, field}
 use Rattle.rules.specs.Units.{fen, lots, price}
 use Rattle.book.specs.declared.heads.Head.{Head}
 use Rattle.book.specs.declared.accounts.Place.{Place}
 use Rattle.book.specs.Accounts.{place}
-pub use Rattle.posting.specs.declared.records.Marks.{Marks}
-pub use Rattle.posting.specs.declared.records.Record.{Record}
-pub use Rattle.posting.specs.declared.records.Mark.{Mark}
-pub use Rattle.posting.specs.declared.records.Mark.TheVariants.{Opens, ClosesOld, ClosesNew}
-pub use Rattle.posting.specs.declared.records.UnknownMark.{UnknownMark}
-pub use Rattle.posting.specs.declared.records.Trade.{Trade}
-pub use Rattle.posting.specs.declared.records.Pairing.{Pairing}
-pub use Rattle.posting.specs.declared.records.Payment.{Payment}
-pub use Rattle.posting.specs.declared.records.Pledge.{Pledge}
-pub use Rattle.posting.specs.declared.records.Request.{Request}
-pub use Rattle.posting.specs.declared.records.Request.TheVariants.{Trading, PairingUp, Depositing, Withdrawing, Pledging}
+pub use Rattle.requests.specs.declared.records.Marks.{Marks}
+pub use Rattle.requests.specs.declared.records.Record.{Record}
+pub use Rattle.requests.specs.declared.records.Mark.{Mark}
+pub use Rattle.requests.specs.declared.records.Mark.TheVariants.{Opens, ClosesOld, ClosesNew}
+pub use Rattle.requests.specs.declared.records.UnknownMark.{UnknownMark}
+pub use Rattle.requests.specs.declared.records.Trade.{Trade}
+pub use Rattle.requests.specs.declared.records.Pairing.{Pairing}
+pub use Rattle.requests.specs.declared.records.Payment.{Payment}
+pub use Rattle.requests.specs.declared.records.Pledge.{Pledge}
+pub use Rattle.requests.specs.declared.records.Request.{Request}
+pub use Rattle.requests.specs.declared.records.Request.TheVariants.{Trading, PairingUp, Depositing, Withdrawing, Pledging}
 
 abbrev pub record_size : ℕ
 record_size = 24
@@ -33,6 +34,20 @@ record_at r = record {
   a = number_at r 8 8;
   b = number_at r 16 8;
 }
+
+-- the same as a table, to write a record by
+abbrev pub record_fields : Record → List Field
+record_fields q =
+    field 0 1 q.kind
+    ∷ field 1 1 q.contract
+    ∷ field 2 1 q.first
+    ∷ field 3 1 q.second
+    ∷ field 4 1 q.marks.first
+    ∷ field 5 1 q.marks.second
+    ∷ field 6 2 q.blank
+    ∷ field 8 8 q.a
+    ∷ field 16 8 q.b
+    ∷ []
 
 -- 0 opens, 1 closes old lots, 2 closes lots opened today
 abbrev pub read_mark : ℕ → Option Mark

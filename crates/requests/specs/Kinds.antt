@@ -1,8 +1,8 @@
 -- 01, Day records: the kinds by their numbers.
 use Rattle.std.specs.Prelude.{ℕ, ◌≡◌, ◌<◌, ◌⊎◌, Result, MatchResult}
-pub use Rattle.posting.specs.declared.records.Kind.{Kind}
-use Rattle.posting.specs.declared.records.Kind.TheVariants.{Trade, Pairing, Deposit, Withdrawal, Pledge}
-pub use Rattle.posting.specs.declared.records.UnknownKind.{UnknownKind}
+pub use Rattle.requests.specs.declared.records.Kind.{Kind}
+use Rattle.requests.specs.declared.records.Kind.TheVariants.{Trade, Pairing, Deposit, Withdrawal, Pledge}
+pub use Rattle.requests.specs.declared.records.UnknownKind.{UnknownKind}
 
 abbrev pub kind_number : Kind → ℕ
 kind_number Trade = 1

@@ -1,7 +1,7 @@
 // A record's bytes to what it asks for, or to nothing, where it is refused 1.
 ghost use Rattle.std.specs.Prelude.{◌≡◌, length, ◌≤◌, cond, Some, None};
 ghost use Rattle.folds.specs.Tests.{all_of};
-ghost use Rattle.posting.specs.Records.{record_size, record_at, unmarked, trade_tests, pairing_tests, payment_tests, pledge_tests, read_trade, read_pairing, payment, read_deposit, read_withdrawal, read_pledge, read_kind, request_of};
+ghost use Rattle.requests.specs.Records.{record_size, record_at, unmarked, trade_tests, pairing_tests, payment_tests, pledge_tests, read_trade, read_pairing, payment, read_deposit, read_withdrawal, read_pledge, read_kind, request_of};
 
 use crate::records::{Kind, Mark, Marks, Pairing, Payment, Pledge, Record, Request, Trade};
 use book::heads::Head;

@@ -37,7 +37,7 @@ pub struct UnknownKind(pub u8);
 impl TryFrom<u8> for Kind {
     type Error = UnknownKind;
 
-    ghost use Rattle.posting.specs.Kinds.{KindOf};
+    ghost use Rattle.requests.specs.Kinds.{KindOf};
 
     ghost try_from_gives = { KindOf };
 
@@ -67,7 +67,7 @@ pub struct UnknownMark(pub u8);
 impl TryFrom<u8> for Mark {
     type Error = UnknownMark;
 
-    ghost use Rattle.posting.specs.Records.{MarkOf};
+    ghost use Rattle.requests.specs.Records.{MarkOf};
 
     ghost try_from_gives = { MarkOf };
 

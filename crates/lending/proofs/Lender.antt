@@ -38,15 +38,15 @@ use denote.Triple.Walked.{says, needs, Stays, stay_none, walk_of, Goes-none, Wal
 use denote.Exit.{yes}
 use Rattle.book.specs.declared.accounts.Account.{Account}
 use Rattle.posting.specs.declared.accounts.Entry.{Entry}
-use Rattle.posting.specs.declared.accounts.Posted.{Posted}
+use Rattle.lending.specs.declared.Posted.{Posted}
 use Rattle.posting.specs.Ranges.{PostedIn}
 use Rattle.posting.specs.contracts.accounts.Entry as Q
 use Rattle.posting.proofs.accounts.Entry.TheLaws as Q'
 use Rattle.book.specs.contracts.accounts.Account as T
 use Rattle.book.proofs.accounts.Account.TheLaws as T'
-use Rattle.posting.specs.contracts.accounts.Posted as S
-use Rattle.posting.proofs.accounts.Posted.TheLaws as S'
-use Rattle.posting.proofs.Thin.{account_val, entry_val, posted_val, sig, ended, clauses, sig₂, ended₂, clauses₂}
+use Rattle.lending.specs.contracts.Posted as S
+use Rattle.lending.proofs.Posted.TheLaws as S'
+use Rattle.lending.proofs.Thin.{account_val, entry_val, posted_val, sig, ended, clauses, sig₂, ended₂, clauses₂}
 
 -- the MIR of a function that lends the account that it is passed to the thin posting g
 abbrev pub function : Callee → Fn

@@ -1,0 +1,2 @@
+-- 01, Day records: an account that is lent.
+pub mod Lent
