@@ -9,8 +9,8 @@ const BOTH: [u8; 2] = [0, 10];
 fn generated_books_and_damaged_ones() {
     for (of, tally) in all_same(|library| checking::seeds(library, 0..=8_399)) {
         tally.assert_answers(of, &BOTH);
-        assert!(tally.calls >= 100_000, "{of}:\n{tally}");
-        let fewest = tally.library.values().min();
+        assert!(tally.count >= 100_000, "{of}:\n{tally}");
+        let fewest = tally.other.values().min();
         assert!(fewest >= Some(&20_000), "{of}:\n{tally}");
     }
 }

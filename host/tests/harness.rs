@@ -30,8 +30,8 @@ fn the_second_program_does_not_differ_from_itself() {
     ];
     for tally in tallies {
         tally.assert_same("the second program");
-        assert!(tally.calls > 400 && tally.bytes > 100_000, "{tally}");
-        assert_eq!(tally.library, tally.second);
+        assert!(tally.count > 400 && tally.bytes > 100_000, "{tally}");
+        assert_eq!(tally.other, tally.second);
     }
 }
 

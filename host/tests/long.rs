@@ -20,6 +20,8 @@ fn a_summary_is_printed() {
             assert!(text.lines().any(|line| line.starts_with(start)), "{text}");
         }
         assert!(text.ends_with("differences 0\n"), "{text}");
+        let row = format!("| `{words}` | ");
+        assert!(text.lines().any(|line| line.starts_with(&row)), "{text}");
     }
 }
 
@@ -36,8 +38,12 @@ fn what_cannot_be_compared_is_not_taken_for_the_same() {
         "full 20001",
         "archive",
     ] {
-        assert_eq!(long(words).status.code(), Some(2), "{words}");
+        let ran = long(words);
+        assert_eq!(ran.status.code(), Some(2), "{words}");
+        assert!(ran.stdout.is_empty() && !ran.stderr.is_empty(), "{words}");
     }
+    let said = String::from_utf8(long("check 9 5").stderr).expect("text");
+    assert_eq!(said, "long: no seeds to compare from 9 to 5\n");
 }
 
 #[cfg(not(any(feature = "post", feature = "settle")))]

@@ -2,52 +2,10 @@
 
 use crate::account::Account;
 use crate::bounds;
-use crate::bytes::{put_u16, put_u32, u16_at, u32_at};
-use crate::layout::{contents, contract as at, head, position, Section, Shape, FRONT};
+use crate::bytes::{put_u16, put_u32, u16_at};
+use crate::contract::Contract;
+use crate::layout::{contents, head, position, Section, Shape, FRONT};
 use crate::position::Position;
-use crate::refusal::Refusal;
-use crate::units::{Fen, Multiplier, Price, Rate};
-use crate::validity;
-
-/// One contract: a row of section 1.
-#[derive(Clone, Copy, PartialEq, Eq, Debug)]
-pub struct Contract {
-    pub last_price: Price,
-    pub multiplier: Multiplier,
-    pub margin_rate: Rate,
-    pub trade_fee: Fen,
-    pub delivery_fee: Fen,
-}
-
-impl Contract {
-    /// Reads a row; none if its last field is not zero.
-    fn decode(row: &[u8]) -> Option<Contract> {
-        let row: &[u8; at::SIZE] = row.try_into().ok()?;
-        let number = |at| i64::from(u32_at(row, at));
-        let contract = Contract {
-            last_price: Price(number(at::LAST_PRICE)),
-            multiplier: Multiplier(number(at::MULTIPLIER)),
-            margin_rate: Rate(number(at::MARGIN_RATE)),
-            trade_fee: Fen(i128::from(number(at::TRADE_FEE))),
-            delivery_fee: Fen(i128::from(number(at::DELIVERY_FEE))),
-        };
-        (number(at::ZERO) == 0).then_some(contract)
-    }
-
-    fn encode(&self) -> [u8; at::SIZE] {
-        let mut row = [0; at::SIZE];
-        put_u32(&mut row, at::LAST_PRICE, self.last_price.0);
-        put_u32(&mut row, at::MULTIPLIER, self.multiplier.0);
-        put_u32(&mut row, at::MARGIN_RATE, self.margin_rate.0);
-        put_u32(&mut row, at::TRADE_FEE, fee(self.trade_fee));
-        put_u32(&mut row, at::DELIVERY_FEE, fee(self.delivery_fee));
-        row
-    }
-}
-
-fn fee(fen: Fen) -> i64 {
-    i64::try_from(fen.0).expect("a fee that fits eight bytes")
-}
 
 /// A book taken apart. Positions stand member by member, within a member
 /// contract by contract.
@@ -59,12 +17,10 @@ pub struct Book {
 }
 
 impl Book {
-    /// Reads a valid book, and refuses any other bytes.
-    pub fn decode(bytes: &[u8]) -> Result<Book, Refusal> {
-        read_shape(bytes)
-            .and_then(|shape| read_rows(bytes, shape))
-            .filter(validity::holds)
-            .ok_or(Refusal::BookNotValid)
+    /// Reads head, table of contents and rows, whatever the figures in them;
+    /// none if the bytes are not those of one shape.
+    pub fn read(bytes: &[u8]) -> Option<Book> {
+        read_rows(bytes, read_shape(bytes)?)
     }
 
     pub fn shape(&self) -> Shape {

@@ -10,6 +10,7 @@ pub mod book;
 pub mod bounds;
 mod bytes;
 pub mod comparison;
+pub mod contract;
 pub mod evening;
 pub mod generate;
 pub mod layout;

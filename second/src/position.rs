@@ -4,7 +4,6 @@ use std::ops::{Index, IndexMut};
 
 use crate::bytes::{i64_at, put_i64, put_u32, u32_at};
 use crate::layout::position as at;
-use crate::record::Mark;
 use crate::units::{Cash, Lots};
 
 #[derive(Clone, Copy, PartialEq, Eq, Debug)]
@@ -20,6 +19,25 @@ impl Side {
         match self {
             Side::Long => Side::Short,
             Side::Short => Side::Long,
+        }
+    }
+}
+
+/// The mark under which a side trades.
+#[derive(Clone, Copy, PartialEq, Eq, Debug)]
+pub enum Mark {
+    Opens = 0,
+    ClosesOld = 1,
+    ClosesNew = 2,
+}
+
+impl Mark {
+    pub fn from_number(number: u8) -> Option<Mark> {
+        match number {
+            0 => Some(Mark::Opens),
+            1 => Some(Mark::ClosesOld),
+            2 => Some(Mark::ClosesNew),
+            _ => None,
         }
     }
 }

@@ -2,8 +2,8 @@
 
 use crate::book::Book;
 use crate::bounds;
-use crate::position::SideLots;
-use crate::record::{Mark, Pairing, Party, Record, Role, Trade};
+use crate::position::{Mark, SideLots};
+use crate::record::{Pairing, Party, Record, Role, Trade};
 use crate::refusal::{answer, Refusal};
 use crate::units::Lots;
 

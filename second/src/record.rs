@@ -3,27 +3,8 @@
 use crate::bounds;
 use crate::bytes::{put_u64, u64_at};
 use crate::layout::{record as at, Shape};
-use crate::position::Side;
+use crate::position::{Mark, Side};
 use crate::units::{Fen, Lots, Price, Rate};
-
-/// The mark under which a side trades.
-#[derive(Clone, Copy, PartialEq, Eq, Debug)]
-pub enum Mark {
-    Opens = 0,
-    ClosesOld = 1,
-    ClosesNew = 2,
-}
-
-impl Mark {
-    fn from_number(number: u8) -> Option<Mark> {
-        match number {
-            0 => Some(Mark::Opens),
-            1 => Some(Mark::ClosesOld),
-            2 => Some(Mark::ClosesNew),
-            _ => None,
-        }
-    }
-}
 
 /// The part a member plays in a trade or a pairing.
 #[derive(Clone, Copy, PartialEq, Eq, Debug)]

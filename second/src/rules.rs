@@ -1,6 +1,6 @@
 //! The money rules, each as a function of the figures it is stated over.
 
-use crate::book::Contract;
+use crate::contract::Contract;
 use crate::position::{Position, Side};
 use crate::units::{Fen, Lots, Price, Rate};
 

@@ -1,9 +1,10 @@
 //! The evening settlement.
 
 use crate::account::{Account, Standing};
-use crate::book::{Book, Contract};
+use crate::book::Book;
 use crate::bounds;
 use crate::bytes::{put_i64, u32_at};
+use crate::contract::Contract;
 use crate::layout::{pair, results};
 use crate::position::{Position, Side};
 use crate::refusal::{answer, Refusal};

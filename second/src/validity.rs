@@ -1,15 +1,23 @@
 //! What makes a book valid, beyond its shape.
 
 use crate::account::Account;
-use crate::book::{Book, Contract};
+use crate::book::Book;
 use crate::bounds;
+use crate::contract::Contract;
 use crate::position::{Position, Side, SideLots};
-use crate::refusal::answer;
+use crate::refusal::{answer, Refusal};
 use crate::units::{Cash, Fen, Lots, Price};
 
 /// Answers 0 for a valid book, and 10 for any other bytes.
 pub fn check(book: &[u8]) -> u8 {
     answer(Book::decode(book))
+}
+
+impl Book {
+    /// Reads a valid book, and refuses any other bytes.
+    pub fn decode(bytes: &[u8]) -> Result<Book, Refusal> {
+        Book::read(bytes).filter(holds).ok_or(Refusal::BookNotValid)
+    }
 }
 
 /// Whether every figure is within its bounds and every contract balances.

@@ -2,6 +2,8 @@
 
 mod common;
 
+use std::path::Path;
+
 use common::*;
 
 #[test]
@@ -11,7 +13,8 @@ fn the_sheet_through_the_library() {
 
 #[test]
 fn the_sheet_through_the_program() {
-    let output = run_program(&case_e_file());
+    let program = Path::new(env!("CARGO_BIN_EXE_second"));
+    let output = second::comparison::run(program, &case_e_file()).unwrap();
     assert!(output.status.success());
     assert_eq!(output.stdout, CASE_E_SHEET.as_bytes());
 }

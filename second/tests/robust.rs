@@ -2,6 +2,8 @@
 
 mod common;
 
+use std::path::Path;
+
 use common::*;
 use second::generate::damage::noise;
 use second::generate::day;
@@ -73,7 +75,8 @@ fn records_and_books_of_any_bytes_through_single_calls() {
 }
 
 fn program_agrees(input: &[u8]) {
-    let output = run_program(input);
+    let program = Path::new(env!("CARGO_BIN_EXE_second"));
+    let output = second::comparison::run(program, input).unwrap();
     assert_eq!(output.status.code(), Some(0));
     assert!(output.stdout == second::evening(input));
 }

@@ -2,8 +2,10 @@
 
 use std::ops::RangeInclusive;
 use std::process::ExitCode;
+use std::time::Instant;
 
 use host::compare::{archive, checking, posting, settling, Library, Linked, Tally};
+use second::comparison;
 use second::generate::full_day;
 use second::layout::Shape;
 
@@ -22,62 +24,53 @@ Compared is the library that this program links, which is the archive: with the
 word `archive` or without it.";
 
 fn main() -> ExitCode {
+    let began = Instant::now();
     let arguments: Vec<String> = std::env::args().skip(1).collect();
     let words: Vec<&str> = arguments.iter().map(String::as_str).collect();
-    let compared = match &words[..] {
+    let name = words.join(" ");
+    let tally = match &words[..] {
         ["archive", rest @ ..] => compare(&mut *archive(), rest),
         rest => compare(&mut Linked, rest),
     };
-    let Some(tally) = compared else {
-        eprintln!("{USAGE}");
-        return ExitCode::from(2);
-    };
-    println!("{}\n{tally}", words.join(" "));
-    ExitCode::from(u8::from(tally.differences > 0))
+    if tally.is_ok() {
+        println!("{name}");
+    }
+    comparison::end("long", &name, began, tally)
 }
 
-/// One comparison; none if there is no such, or nothing to compare in it.
-fn compare(library: &mut dyn Library, words: &[&str]) -> Option<Tally> {
-    let tallies = match *words {
+/// One comparison; why there is none, if there is no such or nothing to compare
+/// in it.
+fn compare(library: &mut dyn Library, words: &[&str]) -> Result<Tally, String> {
+    match *words {
         ["fields", members, contracts] => {
-            vec![checking::fields(library, &[shape(members, contracts)?])]
+            let shape = shape(members, contracts).ok_or(USAGE)?;
+            Ok(checking::fields(library, &[shape]))
         }
         ["full", records] => {
-            let records = within(records, 1..=full_day::RECORDS)?;
-            vec![posting::full_day(library, records)]
+            let records = within(records, 1..=full_day::RECORDS).ok_or(USAGE)?;
+            Ok(posting::full_day(library, records))
         }
         [word, first, last] => {
-            let seeds = first.parse().ok()?..=last.parse().ok()?;
-            of_seeds(library, word, seeds)?
+            let (edges, of_seeds) = calls_of(word).ok_or(USAGE)?;
+            let seeds = comparison::seeds(first, last)?;
+            let mut tally = edges(library);
+            tally.add(of_seeds(library, seeds));
+            Ok(tally)
         }
-        _ => return None,
-    };
-    let mut whole = Tally::default();
-    for tally in tallies {
-        whole.add(tally);
+        _ => Err(USAGE.into()),
     }
-    Some(whole)
 }
 
-fn of_seeds(
-    library: &mut dyn Library,
-    word: &str,
-    seeds: RangeInclusive<u64>,
-) -> Option<Vec<Tally>> {
+type Edges = fn(&mut dyn Library) -> Tally;
+type OfSeeds = fn(&mut dyn Library, RangeInclusive<u64>) -> Tally;
+
+/// The comparisons of one function, with every call at a bound and with the
+/// calls of seeds.
+fn calls_of(word: &str) -> Option<(Edges, OfSeeds)> {
     match word {
-        _ if seeds.is_empty() => None,
-        "check" => Some(vec![
-            checking::edges(library),
-            checking::seeds(library, seeds),
-        ]),
-        "post" => Some(vec![
-            posting::edges(library),
-            posting::seeds(library, seeds),
-        ]),
-        "settle" => Some(vec![
-            settling::edges(library),
-            settling::seeds(library, seeds),
-        ]),
+        "check" => Some((checking::edges, checking::seeds)),
+        "post" => Some((posting::edges, posting::seeds)),
+        "settle" => Some((settling::edges, settling::seeds)),
         _ => None,
     }
 }

@@ -8,11 +8,11 @@ use second::generate::random::Random;
 use second::layout::Shape;
 
 use super::books::{cases, every_field};
-use super::{Lent, Library, Tally};
+use super::{Compared, Lent, Library, Tally};
 
 /// The books of all seeds from the first to the last.
 pub fn seeds(library: &mut dyn Library, seeds: RangeInclusive<u64>) -> Tally {
-    let mut tally = Tally::default();
+    let mut tally = Tally::of(Compared::Calls);
     for seed in seeds {
         for case in cases(seed) {
             let name = || format!("check, seed {seed}, {}", case.name);
@@ -25,12 +25,12 @@ pub fn seeds(library: &mut dyn Library, seeds: RangeInclusive<u64>) -> Tally {
 /// Every book that has one field at, one below or one above a bound, or one
 /// balance broken; also the verdicts are those that the cases are written with.
 pub fn edges(library: &mut dyn Library) -> Tally {
-    let mut tally = Tally::default();
+    let mut tally = Tally::of(Compared::Calls);
     for case in edge_books() {
         let name = || format!("check, {}", case.name);
         check(library, &mut tally, name, &case.bytes);
         let written = if case.valid { 0 } else { 10 };
-        let lent = Lent::new(&case.bytes, tally.calls);
+        let lent = Lent::new(&case.bytes, tally.count);
         let answer = library.check(lent.bytes());
         let same = lent.is(&case.bytes);
         let name = || format!("check, {}, as written", case.name);
@@ -41,7 +41,7 @@ pub fn edges(library: &mut dyn Library) -> Tally {
 
 /// Every field of books of some sizes at and beside each of its bounds.
 pub fn fields(library: &mut dyn Library, sizes: &[Shape]) -> Tally {
-    let mut tally = Tally::default();
+    let mut tally = Tally::of(Compared::Calls);
     for &shape in sizes {
         let (members, contracts) = (shape.members, shape.contracts);
         for temper in [Temper::Calm, Temper::Tight, Temper::Extreme] {
@@ -58,7 +58,7 @@ pub fn fields(library: &mut dyn Library, sizes: &[Shape]) -> Tally {
 
 fn check(library: &mut dyn Library, tally: &mut Tally, name: impl FnOnce() -> String, book: &[u8]) {
     let expected = second::check(book);
-    let lent = Lent::new(book, tally.calls);
+    let lent = Lent::new(book, tally.count);
     let answer = library.check(lent.bytes());
     let same = lent.is(book);
     tally.call(name, answer, expected, same, book.len());

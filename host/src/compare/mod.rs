@@ -10,16 +10,11 @@ pub mod posting;
 pub mod settling;
 
 mod lent;
-mod tally;
 
 pub use lent::Lent;
-pub use tally::{Tally, DESCRIBED};
+pub use second::comparison::{Answer, Compared, Tally, DESCRIBED};
 
 use crate::worker::Worker;
-
-/// What a library answered; or, where there is no answer or it cannot count,
-/// why not.
-pub type Answer = Result<u8, String>;
 
 /// The three functions, wherever they are.
 pub trait Library {
@@ -38,9 +33,13 @@ pub struct Evening<'a> {
     pub results: &'a mut [u8],
 }
 
+/// A settlement: of a book and prices, into room for the next book and the
+/// results.
+type Settles = fn(&[u8], &[u8], &mut [u8], &mut [u8]) -> u8;
+
 impl Evening<'_> {
     /// Has it settled by a function that always answers.
-    fn by(self, settle: fn(&[u8], &[u8], &mut [u8], &mut [u8]) -> u8) -> Answer {
+    fn by(self, settle: Settles) -> Answer {
         Ok(settle(self.book, self.prices, self.next, self.results))
     }
 }

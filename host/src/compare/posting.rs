@@ -6,11 +6,12 @@ use second::generate::edges::edge_books;
 use second::generate::random::Random;
 use second::generate::{day, full_day, Day};
 use second::layout::record;
-use second::record::{Mark, Pairing, Record, Trade};
+use second::position::Mark;
+use second::record::{Pairing, Record, Trade};
 use second::units::{Fen, Lots, Price, Rate};
 
 use super::books::cases;
-use super::{Lent, Library, Tally};
+use super::{Compared, Lent, Library, Tally};
 
 /// The sorts of postings that are told apart.
 pub const IN_SEQUENCE: &str = "records posted in sequence";
@@ -20,7 +21,7 @@ pub const ALONE: &str = "records posted to a book of their own";
 /// one after the other to the same book; some of them also cut or lengthened.
 /// Then single records are posted to books that mostly are not valid.
 pub fn seeds(library: &mut dyn Library, seeds: RangeInclusive<u64>) -> Tally {
-    let mut tally = Tally::default();
+    let mut tally = Tally::of(Compared::Calls);
     for seed in seeds {
         let day = day(seed);
         let mut random = Random::new(seed ^ 0x70_6f_73_74);
@@ -32,7 +33,7 @@ pub fn seeds(library: &mut dyn Library, seeds: RangeInclusive<u64>) -> Tally {
 
 /// The fullest day with so many records of each member, posted in the same way.
 pub fn full_day(library: &mut dyn Library, records: usize) -> Tally {
-    let mut tally = Tally::default();
+    let mut tally = Tally::of(Compared::Calls);
     let day = full_day::day(records);
     let mut random = Random::new(day.seed);
     in_sequence(library, &mut tally, &mut random, &day);
@@ -81,7 +82,7 @@ fn single(library: &mut dyn Library, tally: &mut Tally, random: &mut Random, day
         } else {
             record
         };
-        let mut books = Books::new(&case.bytes, tally.calls, ALONE);
+        let mut books = Books::new(&case.bytes, tally.count, ALONE);
         let name = || format!("post, seed {seed}, a record to the book: {}", case.name);
         books.post(library, tally, name, &record);
     }
@@ -89,10 +90,10 @@ fn single(library: &mut dyn Library, tally: &mut Tally, random: &mut Random, day
 
 /// Every book at or beside a bound, with each of a few records.
 pub fn edges(library: &mut dyn Library) -> Tally {
-    let mut tally = Tally::default();
+    let mut tally = Tally::of(Compared::Calls);
     for case in edge_books() {
         for (index, record) in plain_records().iter().enumerate() {
-            let mut books = Books::new(&case.bytes, tally.calls, ALONE);
+            let mut books = Books::new(&case.bytes, tally.count, ALONE);
             let name = || format!("post, plain record {index} to the book: {}", case.name);
             books.post(library, &mut tally, name, record);
         }
@@ -163,15 +164,15 @@ impl Books {
         name: impl FnOnce() -> String,
         record: &[u8],
     ) {
-        let lent = Lent::new(record, tally.calls);
+        let lent = Lent::new(record, tally.count);
         let expected = second::post(&mut self.second, record);
         let answer = library.post(self.library.bytes_mut(), lent.bytes());
         let same = self.library.is(&self.second) && lent.is(record);
         if !same {
-            self.library = Lent::new(&self.second, tally.calls);
+            self.library = Lent::new(&self.second, tally.count);
         }
         let bytes = self.second.len() + record.len();
         tally.call(name, answer, expected, same, bytes);
-        tally.sort(self.sort);
+        tally.sort(self.sort, 1);
     }
 }

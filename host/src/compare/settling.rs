@@ -8,12 +8,12 @@ use second::generate::edges::edge_books;
 use second::generate::random::Random;
 use second::layout::{head, pair, results, Shape};
 
-use super::{Evening, Lent, Library, Tally};
+use super::{Compared, Evening, Lent, Library, Tally};
 
 /// The calls of all seeds from the first to the last: each as it is made, then
 /// with other lengths of the lent room and with other prices.
 pub fn seeds(library: &mut dyn Library, seeds: RangeInclusive<u64>) -> Tally {
-    let mut tally = Tally::default();
+    let mut tally = Tally::of(Compared::Calls);
     for seed in seeds {
         let mut random = Random::new(seed ^ 0x73_65_74_74);
         let whole = call(seed);
@@ -40,7 +40,7 @@ pub fn seeds(library: &mut dyn Library, seeds: RangeInclusive<u64>) -> Tally {
 
 /// Every book at or beside a bound, in the room it needs.
 pub fn edges(library: &mut dyn Library) -> Tally {
-    let mut tally = Tally::default();
+    let mut tally = Tally::of(Compared::Calls);
     let mut random = Random::new(3);
     for case in edge_books() {
         let shape = shape_of(&case.bytes);
@@ -124,10 +124,10 @@ fn settle(
 ) {
     let mut next = any_room(random, call.next);
     let mut results = any_room(random, call.results);
-    let book = Lent::new(&call.book, tally.calls);
-    let prices = Lent::new(&call.prices, tally.calls / 16);
-    let mut lent_next = Lent::new(&next, tally.calls / 3);
-    let mut lent_results = Lent::new(&results, tally.calls / 5);
+    let book = Lent::new(&call.book, tally.count);
+    let prices = Lent::new(&call.prices, tally.count / 16);
+    let mut lent_next = Lent::new(&next, tally.count / 3);
+    let mut lent_results = Lent::new(&results, tally.count / 5);
     let expected = second::settle(&call.book, &call.prices, &mut next, &mut results);
     let answer = library.settle(Evening {
         book: book.bytes(),
@@ -141,7 +141,7 @@ fn settle(
         && lent_results.is(&results);
     let bytes = call.book.len() + call.prices.len() + next.len() + results.len();
     tally.call(name, answer, expected, same, bytes);
-    tally.sort(room(call));
+    tally.sort(room(call), 1);
 }
 
 /// How the lent room compares with what a book of this head needs.

@@ -4,8 +4,9 @@ use std::ops::RangeInclusive;
 
 use super::random::Random;
 use crate::account::{Account, MemberKind};
-use crate::book::{Book, Contract};
+use crate::book::Book;
 use crate::bounds;
+use crate::contract::Contract;
 use crate::layout::Shape;
 use crate::position::{Position, Side, SideLots};
 use crate::units::{Cash, Fen, Lots, Multiplier, Price, Rate};

@@ -2,9 +2,10 @@
 
 use super::day_file;
 use crate::account::{Account, MemberKind};
-use crate::book::{Book, Contract};
-use crate::position::{Position, Side};
-use crate::record::{Mark, Record, Trade};
+use crate::book::Book;
+use crate::contract::Contract;
+use crate::position::{Mark, Position, Side};
+use crate::record::{Record, Trade};
 use crate::units::{Fen, Lots, Multiplier, Price, Rate};
 
 /// The book of Case E.

@@ -5,7 +5,8 @@
 
 use super::day_file;
 use crate::account::{Account, MemberKind};
-use crate::book::{Book, Contract};
+use crate::book::Book;
+use crate::contract::Contract;
 use crate::layout::{account, contents, contract, head, position, Shape, FRONT};
 use crate::position::{Position, Side, SideLots};
 use crate::units::{Cash, Fen, Lots, Multiplier, Price, Rate};

@@ -8,6 +8,7 @@ pub mod edges;
 pub mod fields;
 pub mod full_day;
 mod misstate;
+pub mod pieces;
 pub mod random;
 pub mod records;
 

@@ -5,9 +5,9 @@ use super::random::Random;
 use crate::book::Book;
 use crate::bounds;
 use crate::layout::record as at;
-use crate::position::Side;
+use crate::position::{Mark, Side};
 use crate::posting::{closable, post_to};
-use crate::record::{Mark, Pairing, Record, Role, Trade};
+use crate::record::{Pairing, Record, Role, Trade};
 use crate::units::{Fen, Lots, Price, Rate};
 
 const MARKS: [Mark; 3] = [Mark::Opens, Mark::ClosesOld, Mark::ClosesNew];

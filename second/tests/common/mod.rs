@@ -2,9 +2,6 @@
 //! own layout, so that the tests hold one against the other.
 #![allow(dead_code)]
 
-use std::path::Path;
-use std::process::Output;
-
 /// A row of section 1: price, multiplier, rate, trade fee, delivery fee, zero.
 pub type RawContract = [u32; 6];
 
@@ -247,11 +244,4 @@ pub const STANDING: usize = 8;
 /// What the evening program prints, as text.
 pub fn evening(input: &[u8]) -> String {
     String::from_utf8(second::evening(input)).unwrap()
-}
-
-/// Runs the evening program itself.
-pub fn run_program(input: &[u8]) -> Output {
-    let program =
-        option_env!("CARGO_BIN_EXE_second").expect("cargo names it for this package alone");
-    second::comparison::run(Path::new(program), input).unwrap()
 }
