@@ -1,32 +1,22 @@
-//! Finds what `scripts/library` builds: the library to link, the archive as it
-//! was built, which is for x86-64, and for the comparisons the worker.
+//! Finds the library that `scripts/library` builds, which is for x86-64, and has
+//! it linked.
 
 use std::path::{Path, PathBuf};
 use std::{env, process};
 
 fn main() {
-    let archive = built("staticlib/libclearing.a");
+    let package = PathBuf::from(env::var_os("CARGO_MANIFEST_DIR").unwrap_or_default());
+    let archive = package.join("../target/staticlib/libclearing.a");
+    println!("cargo:rerun-if-changed={}", archive.display());
+    if !archive.is_file() {
+        let missing = archive.display();
+        eprintln!("{missing} is not there; build it with: scripts/library");
+        process::exit(1)
+    }
     let folder = archive.parent().unwrap_or(Path::new("."));
     println!("cargo:rustc-link-search=native={}", folder.display());
     println!("cargo:rustc-link-lib=static=clearing");
     println!("cargo:rustc-env=CLEARING_ARCHIVE={}", archive.display());
-    if env::var_os("CARGO_FEATURE_TOOLS").is_some() {
-        let worker = built("native/worker");
-        println!("cargo:rustc-env=CLEARING_WORKER={}", worker.display());
-    }
-}
-
-/// A file below `target`. This script runs again when it changes.
-fn built(path: &str) -> PathBuf {
-    let package = PathBuf::from(env::var_os("CARGO_MANIFEST_DIR").unwrap_or_default());
-    let file = package.join("../target").join(path);
-    println!("cargo:rerun-if-changed={}", file.display());
-    if !file.is_file() {
-        eprintln!(
-            "{} is not there; build it with: scripts/library",
-            file.display()
-        );
-        process::exit(1)
-    }
-    file
+    // What build scripts of packages above this one read.
+    println!("cargo:archive={}", archive.display());
 }

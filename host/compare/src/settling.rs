@@ -8,7 +8,7 @@ use second::generate::edges::edge_books;
 use second::generate::random::Random;
 use second::layout::{head, pair, results, Shape};
 
-use super::{Compared, Evening, Lent, Library, Tally};
+use crate::{Compared, Evening, Lent, Library, Tally};
 
 /// The calls of all seeds from the first to the last: each as it is made, then
 /// with other lengths of the lent room and with other prices.

@@ -45,13 +45,3 @@ fn what_cannot_be_compared_is_not_taken_for_the_same() {
     let said = String::from_utf8(long("check 9 5").stderr).expect("text");
     assert_eq!(said, "long: no seeds to compare from 9 to 5\n");
 }
-
-#[cfg(not(any(feature = "post", feature = "settle")))]
-#[test]
-fn a_function_that_is_not_there_differs() {
-    for words in ["post 0 1", "settle 0 1"] {
-        let ran = long(words);
-        assert_eq!(ran.status.code(), Some(1), "{words}");
-        assert!(ran.stdout.starts_with(words.as_bytes()));
-    }
-}

@@ -29,14 +29,12 @@ enum {
 };
 
 enum { CHECK = 0, POST = 1, SETTLE = 2 };
-enum { DONE = 0, MARGIN_CHANGED = 1, NOT_THERE = 2 };
+enum { DONE = 0, MARGIN_CHANGED = 1 };
 
 byte clearing_check(const byte *book, size book_length);
-__attribute__((weak)) byte clearing_post(byte *book, size book_length, const byte *record,
-                                         size record_length);
-__attribute__((weak)) byte clearing_settle(const byte *book, size book_length, const byte *prices,
-                                           size prices_length, byte *next, size next_length,
-                                           byte *results, size results_length);
+byte clearing_post(byte *book, size book_length, const byte *record, size record_length);
+byte clearing_settle(const byte *book, size book_length, const byte *prices, size prices_length,
+                     byte *next, size next_length, byte *results, size results_length);
 
 static long system_call(long which, long a, long b, long c, long d, long e, long f)
 {
@@ -122,18 +120,19 @@ static int margins(int fill, int slice, size start, size length)
     return same;
 }
 
-static byte call(number which, byte *at[SLICES], const number *length, byte *seen)
+static byte call(number which, byte *at[SLICES], const number *length)
 {
-    *seen = DONE;
-    if (which == CHECK)
+    switch (which) {
+    case CHECK:
         return clearing_check(at[0], length[0]);
-    if (which == POST && clearing_post)
+    case POST:
         return clearing_post(at[0], length[0], at[1], length[1]);
-    if (which == SETTLE && clearing_settle)
+    case SETTLE:
         return clearing_settle(at[0], length[0], at[1], length[1], at[2], length[2], at[3],
                                length[3]);
-    *seen = NOT_THERE;
-    return 0;
+    default:
+        leave(5);
+    }
 }
 
 __attribute__((noreturn, force_align_arg_pointer)) void _start(void)
@@ -141,7 +140,7 @@ __attribute__((noreturn, force_align_arg_pointer)) void _start(void)
     make_rooms();
     for (number count = 0;; count++) {
         number head[1 + SLICES];
-        byte answer[4] = {0, 0, 0, 0};
+        byte answer[4] = {0, DONE, 0, 0};
         byte *at[SLICES];
         receive((byte *)head, sizeof head);
         for (int slice = 0; slice < SLICES; slice++) {
@@ -153,7 +152,7 @@ __attribute__((noreturn, force_align_arg_pointer)) void _start(void)
             receive(at[slice], length);
             margins(1, slice, start, length);
         }
-        answer[0] = call(head[0], at, head + 1, &answer[1]);
+        answer[0] = call(head[0], at, head + 1);
         for (int slice = 0; slice < SLICES; slice++)
             if (!margins(0, slice, (size)(at[slice] - room(slice)), head[1 + slice]))
                 answer[1] = MARGIN_CHANGED;

@@ -1,6 +1,6 @@
 //! The evening settlement, compared with the second program's.
 
-use host::compare::{all_same, settling};
+use comparison::{all_same, settling};
 
 const EVERY: [u8; 5] = [0, 8, 9, 10, 11];
 

@@ -1,6 +1,6 @@
 //! The posting of records, compared with the second program's.
 
-use host::compare::{all_same, posting};
+use comparison::{all_same, posting};
 
 const EVERY: [u8; 9] = [0, 1, 2, 3, 4, 5, 6, 7, 10];
 

@@ -15,6 +15,7 @@ use std::hint::black_box;
 use std::process::ExitCode;
 use std::time::Instant;
 
+use comparison::answer;
 use second::generate::books::{book, Hour, Temper};
 use second::generate::random::Random;
 use second::layout::{record, Shape};
@@ -35,15 +36,10 @@ const CONTRACTS: usize = 32;
 #[derive(Clone)]
 struct Lent {
     book: Vec<u8>,
-    #[cfg_attr(not(feature = "post"), allow(dead_code))]
     trade: [u8; record::SIZE],
-    #[cfg_attr(not(feature = "post"), allow(dead_code))]
     withdrawal: [u8; record::SIZE],
-    #[cfg_attr(not(feature = "settle"), allow(dead_code))]
     prices: Vec<u8>,
-    #[cfg_attr(not(feature = "settle"), allow(dead_code))]
     next: Vec<u8>,
-    #[cfg_attr(not(feature = "settle"), allow(dead_code))]
     results: Vec<u8>,
 }
 
@@ -60,28 +56,32 @@ const OPERATIONS: &[Operation] = &[
     Operation {
         word: "check",
         title: "check of a book",
-        library: |lent| host::check(&lent.book),
+        library: |lent| answer(clearing::check(&lent.book)),
         second: |lent| second::check(&lent.book),
     },
-    #[cfg(feature = "post")]
     Operation {
         word: "trade",
         title: "posting of a trade",
-        library: |lent| host::post(&mut lent.book, &lent.trade),
+        library: |lent| answer(clearing::post(&mut lent.book, &lent.trade)),
         second: |lent| second::post(&mut lent.book, &lent.trade),
     },
-    #[cfg(feature = "post")]
     Operation {
         word: "withdrawal",
         title: "posting of a withdrawal",
-        library: |lent| host::post(&mut lent.book, &lent.withdrawal),
+        library: |lent| answer(clearing::post(&mut lent.book, &lent.withdrawal)),
         second: |lent| second::post(&mut lent.book, &lent.withdrawal),
     },
-    #[cfg(feature = "settle")]
     Operation {
         word: "settle",
         title: "settlement",
-        library: |lent| host::settle(&lent.book, &lent.prices, &mut lent.next, &mut lent.results),
+        library: |lent| {
+            answer(clearing::settle(
+                &lent.book,
+                &lent.prices,
+                &mut lent.next,
+                &mut lent.results,
+            ))
+        },
         second: |lent| second::settle(&lent.book, &lent.prices, &mut lent.next, &mut lent.results),
     },
 ];

@@ -8,6 +8,7 @@ pub mod books;
 pub mod checking;
 pub mod posting;
 pub mod settling;
+pub mod worker;
 
 mod lent;
 
@@ -33,47 +34,31 @@ pub struct Evening<'a> {
     pub results: &'a mut [u8],
 }
 
-/// A settlement: of a book and prices, into room for the next book and the
-/// results.
-type Settles = fn(&[u8], &[u8], &mut [u8], &mut [u8]) -> u8;
-
-impl Evening<'_> {
-    /// Has it settled by a function that always answers.
-    fn by(self, settle: Settles) -> Answer {
-        Ok(settle(self.book, self.prices, self.next, self.results))
-    }
+/// The number of an outcome: 0, or the refusal's.
+pub fn answer(outcome: Result<(), clearing::Refusal>) -> u8 {
+    outcome.map_or_else(clearing::Refusal::number, |()| 0)
 }
-
-/// Why a function has no answer in a build that leaves it out.
-pub const WITHOUT_POST: &str = "built without the feature `post`";
-pub const WITHOUT_SETTLE: &str = "built without the feature `settle`";
 
 /// The library that this package links.
 pub struct Linked;
 
 impl Library for Linked {
     fn check(&mut self, book: &[u8]) -> Answer {
-        Ok(crate::check(book))
+        Ok(answer(clearing::check(book)))
     }
 
-    #[cfg(feature = "post")]
     fn post(&mut self, book: &mut [u8], record: &[u8]) -> Answer {
-        Ok(crate::post(book, record))
+        Ok(answer(clearing::post(book, record)))
     }
 
-    #[cfg(not(feature = "post"))]
-    fn post(&mut self, _: &mut [u8], _: &[u8]) -> Answer {
-        Err(WITHOUT_POST.into())
-    }
-
-    #[cfg(feature = "settle")]
     fn settle(&mut self, lent: Evening) -> Answer {
-        lent.by(crate::settle)
-    }
-
-    #[cfg(not(feature = "settle"))]
-    fn settle(&mut self, _: Evening) -> Answer {
-        Err(WITHOUT_SETTLE.into())
+        let Evening {
+            book,
+            prices,
+            next,
+            results,
+        } = lent;
+        Ok(answer(clearing::settle(book, prices, next, results)))
     }
 }
 
@@ -90,7 +75,13 @@ impl Library for Second {
     }
 
     fn settle(&mut self, lent: Evening) -> Answer {
-        lent.by(second::settle)
+        let Evening {
+            book,
+            prices,
+            next,
+            results,
+        } = lent;
+        Ok(second::settle(book, prices, next, results))
     }
 }
 

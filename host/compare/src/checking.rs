@@ -7,8 +7,8 @@ use second::generate::edges::edge_books;
 use second::generate::random::Random;
 use second::layout::Shape;
 
-use super::books::{cases, every_field};
-use super::{Compared, Lent, Library, Tally};
+use crate::books::{cases, every_field};
+use crate::{Compared, Lent, Library, Tally};
 
 /// The books of all seeds from the first to the last.
 pub fn seeds(library: &mut dyn Library, seeds: RangeInclusive<u64>) -> Tally {

@@ -10,8 +10,8 @@ use second::position::Mark;
 use second::record::{Pairing, Record, Trade};
 use second::units::{Fen, Lots, Price, Rate};
 
-use super::books::cases;
-use super::{Compared, Lent, Library, Tally};
+use crate::books::cases;
+use crate::{Compared, Lent, Library, Tally};
 
 /// The sorts of postings that are told apart.
 pub const IN_SEQUENCE: &str = "records posted in sequence";

@@ -1,9 +1,7 @@
 //! The comparisons themselves: they report nothing of a library that is right,
 //! and find each of some that are wrong.
 
-use host::compare::{
-    checking, posting, settling, Answer, Evening, Library, Second, Tally, DESCRIBED,
-};
+use comparison::{checking, posting, settling, Answer, Evening, Library, Second, Tally, DESCRIBED};
 use second::layout::Shape;
 
 const CHECKED: std::ops::RangeInclusive<u64> = 0..=399;

@@ -6,14 +6,13 @@
 use std::io::{self, Read, Write};
 use std::process::{Child, ChildStdin, ChildStdout, Command, Stdio};
 
-use crate::compare::{Answer, Evening, Library, WITHOUT_POST, WITHOUT_SETTLE};
+use crate::{Answer, Evening, Library};
 
 const SLICES: usize = 4;
 
 /// What the worker saw of a call.
 const DONE: u8 = 0;
 const MARGIN_CHANGED: u8 = 1;
-const NOT_THERE: u8 = 2;
 
 #[derive(Clone, Copy)]
 enum Function {
@@ -60,7 +59,6 @@ impl Worker {
         match seen {
             DONE => Ok(outcome),
             MARGIN_CHANGED => Err("a byte outside the lent memory was written".into()),
-            NOT_THERE => Err("the archive does not export the function".into()),
             _ => Err("the worker said what it cannot say".into()),
         }
     }
@@ -128,9 +126,6 @@ impl Library for Worker {
     }
 
     fn post(&mut self, book: &mut [u8], record: &[u8]) -> Answer {
-        if !cfg!(feature = "post") {
-            return Err(WITHOUT_POST.into());
-        }
         let outcome = self.call(Function::Post, [book, record, &[], &[]])?;
         unchanged(record, &outcome.slices[1], "record")?;
         book.copy_from_slice(&outcome.slices[0]);
@@ -138,9 +133,6 @@ impl Library for Worker {
     }
 
     fn settle(&mut self, lent: Evening) -> Answer {
-        if !cfg!(feature = "settle") {
-            return Err(WITHOUT_SETTLE.into());
-        }
         let slices = [lent.book, lent.prices, &*lent.next, &*lent.results];
         let outcome = self.call(Function::Settle, slices)?;
         unchanged(lent.book, &outcome.slices[0], "book")?;

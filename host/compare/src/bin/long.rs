@@ -4,8 +4,8 @@ use std::ops::RangeInclusive;
 use std::process::ExitCode;
 use std::time::Instant;
 
-use host::compare::{archive, checking, posting, settling, Library, Linked, Tally};
-use second::comparison;
+use comparison::{archive, checking, posting, settling, Library, Linked, Tally};
+use second::comparison::{end, seeds};
 use second::generate::full_day;
 use second::layout::Shape;
 
@@ -35,7 +35,7 @@ fn main() -> ExitCode {
     if tally.is_ok() {
         println!("{name}");
     }
-    comparison::end("long", &name, began, tally)
+    end("long", &name, began, tally)
 }
 
 /// One comparison; why there is none, if there is no such or nothing to compare
@@ -52,7 +52,7 @@ fn compare(library: &mut dyn Library, words: &[&str]) -> Result<Tally, String> {
         }
         [word, first, last] => {
             let (edges, of_seeds) = calls_of(word).ok_or(USAGE)?;
-            let seeds = comparison::seeds(first, last)?;
+            let seeds = seeds(first, last)?;
             let mut tally = edges(library);
             tally.add(of_seeds(library, seeds));
             Ok(tally)

@@ -1,6 +1,6 @@
 //! The check of books, compared with the second program's.
 
-use host::compare::{all_same, checking};
+use comparison::{all_same, checking};
 use second::layout::Shape;
 
 const BOTH: [u8; 2] = [0, 10];

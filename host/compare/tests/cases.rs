@@ -1,14 +1,17 @@
-//! Document 01's examples of records and of delivery, run through the library.
+//! The rules' examples of records and of delivery, run through the library.
 
-#[path = "../../second/tests/common/mod.rs"]
+// A part that is not used here asks for a program of the second package alone.
+#[allow(clippy::option_env_unwrap)]
+#[path = "../../../second/tests/common/mod.rs"]
 mod common;
 
 use common::{deposit, plain, trade, withdrawal, RawBook, CONTRACT};
+use comparison::answer;
 
 /// The book's bytes after an accepted record.
 fn accepted(book: &[u8], record: &[u8]) -> Vec<u8> {
     let mut after = book.to_vec();
-    assert_eq!(host::post(&mut after, record), 0);
+    assert_eq!(clearing::post(&mut after, record), Ok(()));
     assert_ne!(after, book);
     after
 }
@@ -16,7 +19,7 @@ fn accepted(book: &[u8], record: &[u8]) -> Vec<u8> {
 /// A refused record leaves the book as it stood.
 fn refused(book: &[u8], record: &[u8], number: u8) {
     let mut after = book.to_vec();
-    assert_eq!(host::post(&mut after, record), number);
+    assert_eq!(answer(clearing::post(&mut after, record)), number);
     assert_eq!(after, book);
 }
 
@@ -71,7 +74,10 @@ fn paired_lots_go_from_tonights_price_to_the_delivery_price() {
         let prices = [505_000u32.to_le_bytes(), delivery.to_le_bytes()].concat();
         let mut next = vec![0; bytes.len()];
         let mut results = vec![0; 2 * 72];
-        assert_eq!(host::settle(&bytes, &prices, &mut next, &mut results), 0);
+        assert_eq!(
+            clearing::settle(&bytes, &prices, &mut next, &mut results),
+            Ok(())
+        );
         for (member, profit) in [(0, buyer), (1, -buyer)] {
             let row: Vec<i64> = (0..4).map(|at| result(&results, member, at)).collect();
             assert_eq!(row, [member as i64, profit, 14, 0]);
