@@ -89,8 +89,7 @@ fn the_evening_in_rust() {
 fn the_evening_in_python() {
     let shared = built("libclearing.so");
     let linked = Command::new("cc")
-        .args(["-shared", "-nostdlib", "-Wl,-z,text,--no-undefined"])
-        .arg("-Wl,--whole-archive")
+        .args(["-shared", "-Wl,-z,text,--no-undefined,--whole-archive"])
         .arg(env!("CLEARING_ARCHIVE"))
         .args(["-Wl,--no-whole-archive", "-o"])
         .arg(&shared)

@@ -1,7 +1,5 @@
 //! The rules' examples of records and of delivery, run through the library.
 
-// A part that is not used here asks for a program of the second package alone.
-#[allow(clippy::option_env_unwrap)]
 #[path = "../../../second/tests/common/mod.rs"]
 mod common;
 
