@@ -34,6 +34,13 @@ pub struct Evening<'a> {
     pub results: &'a mut [u8],
 }
 
+impl Evening<'_> {
+    /// Has it settled by a function of the four buffers.
+    fn by<A>(self, settle: impl FnOnce(&[u8], &[u8], &mut [u8], &mut [u8]) -> A) -> A {
+        settle(self.book, self.prices, self.next, self.results)
+    }
+}
+
 /// The number of an outcome: 0, or the refusal's.
 pub fn answer(outcome: Result<(), clearing::Refusal>) -> u8 {
     outcome.map_or_else(clearing::Refusal::number, |()| 0)
@@ -52,13 +59,7 @@ impl Library for Linked {
     }
 
     fn settle(&mut self, lent: Evening) -> Answer {
-        let Evening {
-            book,
-            prices,
-            next,
-            results,
-        } = lent;
-        Ok(answer(clearing::settle(book, prices, next, results)))
+        Ok(answer(lent.by(clearing::settle)))
     }
 }
 
@@ -75,13 +76,7 @@ impl Library for Second {
     }
 
     fn settle(&mut self, lent: Evening) -> Answer {
-        let Evening {
-            book,
-            prices,
-            next,
-            results,
-        } = lent;
-        Ok(second::settle(book, prices, next, results))
+        Ok(lent.by(second::settle))
     }
 }
 
