@@ -37,8 +37,9 @@ fn post_one(s: &mut [u8], h: Head, n: NamedAccount) -> Result<(), Refusal>
     ensures s_after { s.new ≡ one_after h s.old n.place n.entry }
 {
     let a = accounts::account_at(s, h, n.place);
-    let after = lending::lent(a, n.entry)?;
-    accounts::put_account(s, h, n.place, after);
+    let after = lending::lent(a, n.entry);
+    after.outcome?;
+    accounts::put_account(s, h, n.place, after.account);
     Ok(())
 }
 
@@ -52,9 +53,9 @@ fn post_two(s: &mut [u8], h: Head, first: NamedAccount, second: NamedAccount) ->
     let b = accounts::account_at(s, h, second.place);
     let one = lending::lent(a, first.entry);
     let other = lending::lent(b, second.entry);
-    let (one, other) = postings::both(one, other)?;
-    accounts::put_account(s, h, first.place, one);
-    accounts::put_account(s, h, second.place, other);
+    postings::both(one.outcome, other.outcome)?;
+    accounts::put_account(s, h, first.place, one.account);
+    accounts::put_account(s, h, second.place, other.account);
     Ok(())
 }
 

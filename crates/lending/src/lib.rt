@@ -1,7 +1,7 @@
 // One member's account is lent to a posting and altered there.
 #![tactic(auto)]
 
-ghost use Rattle.std.specs.Prelude.{◌≡◌, IfOk};
+ghost use Rattle.std.specs.Prelude.{◌≡◌};
 ghost use Rattle.rules.specs.Refusals.{answered};
 ghost use Rattle.lending.specs.Lent.{posted_of};
 ghost use Rattle.posting.specs.Ranges.{PostedIn};
@@ -27,13 +27,22 @@ pub fn post(a: &mut Account, e: Entry) -> Result<(), Refusal>
     Ok(())
 }
 
+/// What a posting said, and the account as it stands then: on a refusal as it stood.
+#[derive(Clone, Copy)]
+pub struct Returned {
+    pub outcome: Result<(), Refusal>,
+    pub account: Account,
+}
+
 /// The account is lent here and nowhere else: whoever calls this one passes it by value.
-pub fn lent(a: Account, e: Entry) -> Result<Account, Refusal>
+pub fn lent(a: Account, e: Entry) -> Returned
     requires { PostedIn a e }
-    ensures value { answered result ≡ (posted_of a e).answer }
-    ensures account { IfOk result (λ b. b ≡ (posted_of a e).account) }
+    ensures { (answered result.outcome ≡ (posted_of a e).answer) × (result.account ≡ (posted_of a e).account) }
 {
     let mut b = a;
-    post(&mut b, e)?;
-    Ok(b)
+    let outcome = post(&mut b, e);
+    Returned {
+        outcome,
+        account: b,
+    }
 }
