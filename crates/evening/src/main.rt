@@ -5,7 +5,10 @@ mod standard;
 
 ghost use Rattle.std.specs.Prelude.{◌≡◌, ◌+◌, ◌*◌, ◌≤◌, ◌<◌, ◌^◌, length, min, IfOk, IfSome};
 ghost use Rattle.book.specs.Layout.{head_size, longest_book};
+ghost use Rattle.folds.specs.Put.{Put};
 ghost use Rattle.intake.specs.Intake.{record_size, records_in, most_prices};
+ghost use Rattle.intake.specs.Posted.{book_posted};
+ghost use Rattle.evening.specs.Settled.{settled_text};
 
 use book::layout;
 use intake::{outcome, parts, records};
@@ -57,6 +60,7 @@ fn post_piece(
     lines: &mut [u8; LINES],
 ) -> io::Result<()>
     requires { (length piece.now ≤ PIECE * record_size) × (place + records_in (length piece.now) < 2 ^ 64) }
+    ensures { book.new ≡ book_posted book.old piece.now }
 {
     let end = records::post_records(book, piece, place, lines);
     standard::write(rt, &lines[..end])
@@ -109,15 +113,17 @@ fn print_refusal(rt: &impl Print, lines: &mut [u8; LINES]) -> io::Result<()> {
     standard::write(rt, &lines[..end])
 }
 
-fn settle(rt: &impl Print, book: &[u8], prices: &[u8], lines: &mut [u8; LINES]) -> io::Result<()>
+// Settles the book at the prices, and puts the lines of what comes of it; answers where they end.
+fn settle(book: &[u8], prices: &[u8], lines: &mut [u8; LINES]) -> usize
     requires { head_size ≤ length book.now }
+    ensures put { Put lines.old lines.new 0 (settled_text book.now prices.now) result }
+    ensures upper_bound { result ≤ length lines.old }
 {
     let mut next = [0u8; layout::LONGEST_BOOK];
     let mut results = [0u8; RESULTS];
     let number = refusals::answer(settlement::settle(book, prices, &mut next, &mut results));
     let members = outcome::members_on(book);
-    let end = outcome::put_outcome(lines, number, &results, members);
-    standard::write(rt, &lines[..end])
+    outcome::put_outcome(lines, number, &results, members)
 }
 
 fn main(rt: HostRuntime) -> io::Result<()> {
@@ -130,5 +136,6 @@ fn main(rt: HostRuntime) -> io::Result<()> {
     let book = &mut bytes[..total];
     let mut input = [0u8; INPUT];
     let prices = post_day(&rt, &mut day, book, &mut input, &mut lines)?;
-    settle(&rt, book, &input[..prices], &mut lines)
+    let end = settle(book, &input[..prices], &mut lines);
+    standard::write(&rt, &lines[..end])
 }

@@ -1,0 +1,2 @@
+-- 01, The evening program: what the program makes of the pieces of its input.
+pub mod Settled
