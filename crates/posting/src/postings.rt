@@ -254,3 +254,14 @@ pub fn both<A: Copy, B: Copy>(
         (Err(m), Err(n)) => Err(if m <= n { m } else { n }),
     }
 }
+
+/// The lower of two refusals' numbers, of which 0 is none.
+pub fn lower(m: u8, n: u8) -> u8
+    ensures { result ≡ lower m n }
+{
+    match (m, n) {
+        (0, _) => n,
+        (_, 0) => m,
+        (1..=255, 1..=255) => m.min(n),
+    }
+}
