@@ -2,8 +2,7 @@
  * The clearing library: futures of one exchange, one day at a time.
  *
  * Link target/staticlib/libclearing.a, which `scripts/library` builds for
- * x86-64. The library needs no other, but for memcpy, to which the compiler turns
- * some copies.
+ * x86-64. The library needs no other, not even C's.
  *
  * docs/FORMAT.md has the layout of all bytes that are lent, field by field;
  * docs/RULEBOOK.md leads from each rule to its definition.

@@ -89,7 +89,8 @@ fn the_evening_in_rust() {
 fn the_evening_in_python() {
     let shared = built("libclearing.so");
     let linked = Command::new("cc")
-        .args(["-shared", "-Wl,-z,text,--no-undefined,--whole-archive"])
+        .args(["-shared", "-nostdlib", "-Wl,-z,text,--no-undefined"])
+        .arg("-Wl,--whole-archive")
         .arg(env!("CLEARING_ARCHIVE"))
         .args(["-Wl,--no-whole-archive", "-o"])
         .arg(&shared)
