@@ -1,8 +1,7 @@
 // Section 1: a contract's row.
 ghost use Rattle.std.specs.Prelude.{◌≡◌, ◌+◌, ◌≤◌, ◌<◌, length};
-ghost use Rattle.folds.specs.Rows.{row_bytes};
 ghost use Rattle.book.specs.Layout.{most_contracts, contract_size, contract_off};
-ghost use Rattle.book.specs.ContractRows.{terms_at, contract_at, contract_fields, put_contract};
+ghost use Rattle.book.specs.ContractRows.{terms_at, contract_at, put_contract};
 
 use crate::layout;
 use rules::units::Price;
@@ -61,23 +60,17 @@ pub fn contract_at(s: &[u8], off: usize) -> Contract
     contract_in(wire::bytes_at(s, off))
 }
 
-fn contract_row(c: Contract) -> [u8; layout::CONTRACT]
-    ensures { result ≡ row_bytes (contract_fields c) }
-{
-    let terms = c.terms;
-    let mut row = [0; layout::CONTRACT];
-    wire::write(&mut row, layout::LAST, terms.last.0);
-    wire::write(&mut row, layout::MULTIPLIER, terms.multiplier);
-    wire::write(&mut row, layout::RATE, terms.rate);
-    wire::write(&mut row, layout::FEE, terms.fee);
-    wire::write(&mut row, layout::DELIVERY, terms.delivery);
-    wire::write(&mut row, layout::CONTRACT_ZERO, c.zero);
-    row
-}
-
 pub fn put_contract(s: &mut [u8], off: usize, c: Contract)
     requires { off + contract_size ≤ length s.old }
     ensures { s.new ≡ put_contract s.old off c }
 {
-    wire::put_bytes(s, off, &contract_row(c));
+    let terms = c.terms;
+    let (_, rest) = s.split_at_mut(off);
+    let row: &mut [u8; layout::CONTRACT] = rest.first_chunk_mut().unwrap();
+    wire::write(row, layout::LAST, terms.last.0);
+    wire::write(row, layout::MULTIPLIER, terms.multiplier);
+    wire::write(row, layout::RATE, terms.rate);
+    wire::write(row, layout::FEE, terms.fee);
+    wire::write(row, layout::DELIVERY, terms.delivery);
+    wire::write(row, layout::CONTRACT_ZERO, c.zero);
 }

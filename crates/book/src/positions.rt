@@ -1,8 +1,8 @@
 // Section 3: a member's row in one contract.
 ghost use Rattle.std.specs.Prelude.{◌≡◌, ◌+◌, ◌≤◌, length};
-ghost use Rattle.folds.specs.Rows.{put_fields, row_bytes};
+ghost use Rattle.folds.specs.Rows.{put_fields};
 ghost use Rattle.book.specs.Layout.{most_members, most_contracts, position_size, short_at, position_off};
-ghost use Rattle.book.specs.Positions.{side_at, position_at, lots_fields, dealt_fields, position_fields, put_position};
+ghost use Rattle.book.specs.Positions.{side_at, position_at, lots_fields, dealt_fields, put_position};
 
 use crate::heads::Head;
 use crate::layout;
@@ -89,18 +89,12 @@ fn put_dealt(row: &mut [u8; layout::POSITION], cash: Fen, traded: Lots, zero: u3
     wire::write(row, layout::POSITION_ZERO, zero);
 }
 
-fn position_row(p: Position) -> [u8; layout::POSITION]
-    ensures { result ≡ row_bytes (position_fields p) }
-{
-    let mut row = [0; layout::POSITION];
-    put_lots(&mut row, p.long, p.short);
-    put_dealt(&mut row, p.cash, p.traded, p.zero);
-    row
-}
-
 pub fn put_position(s: &mut [u8], off: usize, p: Position)
     requires { off + position_size ≤ length s.old }
     ensures { s.new ≡ put_position s.old off p }
 {
-    wire::put_bytes(s, off, &position_row(p));
+    let (_, rest) = s.split_at_mut(off);
+    let row = rest.first_chunk_mut().unwrap();
+    put_lots(row, p.long, p.short);
+    put_dealt(row, p.cash, p.traded, p.zero);
 }

@@ -56,21 +56,15 @@ fn put_standing(row: &mut [u8; RESULT], t: Night)
     wire::write(row, STANDING, u64::from(u32::from(t.standing)));
 }
 
-fn night_row(t: Night) -> [u8; RESULT]
-    ensures { result ≡ row_bytes (result_fields t) }
-{
-    let mut row = [0; RESULT];
-    put_sums(&mut row, t);
-    put_figures(&mut row, t.figures);
-    put_standing(&mut row, t);
-    row
-}
-
 fn put_night(results: &mut [u8], off: usize, t: Night)
     requires { off + result_size ≤ length results.old }
     ensures { results.new ≡ sets results.old off (row_bytes (result_fields t)) }
 {
-    wire::put_bytes(results, off, &night_row(t));
+    let (_, rest) = results.split_at_mut(off);
+    let row = rest.first_chunk_mut().unwrap();
+    put_sums(row, t);
+    put_figures(row, t.figures);
+    put_standing(row, t);
 }
 
 #[tactic(auto, unfolding(crate::specs::Next::result_bytes))]
