@@ -11,7 +11,7 @@ use posting::accounts::Entry;
 use posting::postings;
 use rules::refusals::Refusal;
 
-// The number, and the account as it stands then. No function hands one out: the definition `posted_of` and the theorems `thin_meets` and `lent_meets` speak of it.
+// The number, and the account as it stands then. No function hands one out: the definition `posted_of` and the theorems `thin_meets`, `lent_meets` and `returned_meets` speak of it.
 #[derive(Clone, Copy)]
 pub struct Posted {
     pub answer: u8,
