@@ -14,7 +14,7 @@ pub lent-one-requires : goal.lent-one-requires
 lent-one-requires c = record { account = rw c.account_at-a.ensures (account_by c.requires.0 c.requires.1); entry = c.args.first.entry_in }
 
 pub lent-other-requires : goal.lent-other-requires
-lent-other-requires c = record { account = rw c.account_at-b.ensures (account_by c.requires.0 c.requires.2); entry = c.args.second.entry_in }
+lent-other-requires c = record { account = search (c.account_at-a.ensures, c.account_at-b.ensures, account_by); entry = c.args.second.entry_in }
 
 pub put_account-requires : goal.put_account-requires
 put_account-requires c = (shaped_by c.requires.0, c.requires.1)
