@@ -1,4 +1,4 @@
-use Rattle.std.proofs.Common.{◌≡◌, ◌∙◌, nat_eq, rules, SFits, of_z, arith}
+use Rattle.std.proofs.Common.{Bool, ap, ◌&&◌, ◌≡◌, ◌∙◌, nat_eq, rules, SFits, of_z, arith}
 use Rattle.std.specs.Prelude.{ℤ, pos, negsuc, nat_abs}
 use Rattle.std.specs.Int.{w64}
 use Rattle.std.proofs.Math.Bool.{and_assoc}
@@ -17,4 +17,4 @@ zero (negsuc n) h = ne_eqb (2 ^ 64 - suc n) 0 (λ e. omega (arith, e, h.sfits)) 
 -- the sums are the definition's
 pub returns : goal.returns
 unfolding totals_to
-returns c = rw (c.eq.ensures, zero c.contract_totals-t.result.cash (search rules), c.contract_totals-t.ensures) (simp and_assoc)
+returns c = ap (λ (b : Bool). c.eq.result && b) (zero c.contract_totals-t.result.cash (search rules)) ∙ rw (c.eq.ensures, c.contract_totals-t.ensures) (simp and_assoc)
