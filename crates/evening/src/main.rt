@@ -3,11 +3,11 @@
 
 mod standard;
 
-ghost use Rattle.std.specs.Prelude.{◌≡◌, ◌+◌, ◌*◌, ◌≤◌, ◌<◌, ◌^◌, length, min, IfOk, IfSome};
+ghost use Rattle.std.specs.Prelude.{◌≡◌, ◌+◌, ◌*◌, ◌≤◌, ◌<◌, ◌^◌, length, take, min, IfOk, IfSome};
 ghost use Rattle.book.specs.Layout.{head_size, longest_book};
 ghost use Rattle.folds.specs.Put.{Put};
-ghost use Rattle.intake.specs.Intake.{record_size, records_in, most_prices};
-ghost use Rattle.intake.specs.Posted.{book_posted};
+ghost use Rattle.intake.specs.Intake.{book_total, book_there, count_of, record_size, records_in, most_prices};
+ghost use Rattle.intake.specs.Posted.{book_posted, refused_lines};
 ghost use Rattle.evening.specs.Settled.{settled_text};
 
 use book::layout;
@@ -27,17 +27,41 @@ const LINES: usize = PIECE * sheet::lines::LONGEST_REFUSED;
 // The results of as many members as a book may have.
 const RESULTS: usize = layout::MOST_MEMBERS * settlement::results::RESULT;
 
+// What stands in the first n bytes of the program's arrays. A number beside the bytes, and no slice, so that the clauses say which bytes are meant.
+fn total_in(bytes: &[u8], n: usize) -> usize
+    requires { n ≤ length bytes.now }
+    ensures value { result ≡ book_total (take n bytes.now) }
+    ensures upper_bound { result ≤ longest_book }
+{
+    parts::book_total(&bytes[..n])
+}
+
+fn there_in(bytes: &[u8], n: usize) -> usize
+    requires { n ≤ length bytes.now }
+    ensures value { result ≡ book_there (take n bytes.now) }
+    ensures upper_bound { result ≤ n }
+{
+    parts::book_there(&bytes[..n])
+}
+
+fn count_in(bytes: &[u8], n: usize) -> u64
+    requires { n ≤ length bytes.now }
+    ensures { result ≡ count_of (take n bytes.now) }
+{
+    parts::count_of(&bytes[..n])
+}
+
 // Reads the book; answers its length, where it is there.
 fn read_book(day: &mut impl Read, book: &mut [u8; layout::LONGEST_BOOK]) -> Option<usize>
     ensures { IfSome result (λ n. (head_size ≤ n) × (n ≤ longest_book)) }
 {
     let head = standard::read(day, &mut book[..layout::HEAD]);
-    let total = parts::book_total(&book[..head]);
+    let total = total_in(book, head);
     if total < layout::HEAD {
         return None;
     }
     let rest = standard::read(day, &mut book[layout::HEAD..total]);
-    let there = parts::book_there(&book[..layout::HEAD + rest]);
+    let there = there_in(book, layout::HEAD + rest);
     if there < layout::HEAD {
         None
     } else {
@@ -60,7 +84,8 @@ fn post_piece(
     lines: &mut [u8; LINES],
 ) -> io::Result<()>
     requires { (length piece.now ≤ PIECE * record_size) × (place + records_in (length piece.now) < 2 ^ 64) }
-    ensures { book.new ≡ book_posted book.old piece.now }
+    ensures book_after { book.new ≡ book_posted book.old piece.now }
+    ensures put { Put lines.old lines.new 0 (refused_lines book.old piece.now place) (length (refused_lines book.old piece.now place)) }
 {
     let end = records::post_records(book, piece, place, lines);
     standard::write(rt, &lines[..end])
@@ -97,7 +122,7 @@ fn post_day(
     ensures { IfOk result (λ n. n ≤ most_prices) }
 {
     let got = standard::read(day, &mut input[..parts::COUNT]);
-    let count = parts::count_of(&input[..got]);
+    let count = count_in(input, got);
     if !post_all(rt, day, book, count, input, lines)? {
         return Ok(0);
     }
