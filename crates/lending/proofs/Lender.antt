@@ -8,11 +8,11 @@ use base.Fraction.{full_share}
 use mir.Syntax.{Callee, Fn, named, erased, mut, w8, ty_int, ty_ref, local, value_local, memory_slot, place, copy, rv_opd, addr_of, aggregate, assign, call, seq, return}
 use mir.Val.{Val, vptr}
 use base.Logic.{SProp, ent, sep, emp, id⊢}
-use base.Fml.{GName, ftrue, fsep, fat, flft, flent}
+use base.Fml.{GName, ftrue, fat, flft, flent}
 use prog.Wp.{Calls, Loops, WpFn, Tables}
 use types.Logic.{Logic, sem}
 use contract.Monad.{fact}
-use types.Kit.{‵, raw, ◌⊛◌, some, later, ◌$◌, ◌∵◌, !, qed, by, move, keep, drop, use1, use2, use3, split, join, pick, rewrite, fsplit, fpick, fpack, fjoin, suffices, frame, await, done}
+use types.Kit.{‵, raw, ◌⊛◌, some, later, ◌$◌, ◌∵◌, !, qed, by, move, keep, drop, use1, use2, use3, split, join, pick, rewrite, fsplit, fjoin, suffices, frame, await, done}
 use types.Run.{look, init, forget, stop, from, load, addr, of_opd, and_then, no_more, assigns, land, returns, enter, alloc1, alloc0, params1, pass1, pass0, free1, free0}
 use types.Part.{agg}
 use types.Tokens.{lft_new, lft_end}
@@ -20,13 +20,12 @@ use types.SemTy.{Body}
 use sound.WpLaws.{FmC, fm_of, WpFn-mono}
 use denote.RattleType.{owns}
 use denote.Laws.{Is, shows}
-use denote.Memory.{mem, cell_at, part_of, pointee}
+use denote.Memory.{mem, pointee}
 use denote.Lend.{lends_ref, ref_back}
 use denote.Plain.{uint_Lawful}
 use denote.Builtin.{u8}
 use denote.Ref.{MutBor, MutRef}
 use denote.Steps.{only, owned, peeks, heard, nothing}
-use denote.Struct.Steps.{spelt}
 use denote.Struct.Laws as LL
 use denote.Enum.Laws as EL
 use denote.Triple.Statement.{Contract, Triple}
@@ -46,6 +45,7 @@ use Rattle.book.specs.contracts.accounts.Account as T
 use Rattle.book.proofs.accounts.Account.TheLaws as T'
 use Rattle.lending.specs.contracts.Posted as S
 use Rattle.lending.proofs.Posted.TheLaws as S'
+use Rattle.lending.proofs.Borrowed.{lies_in, lies_out}
 use Rattle.lending.proofs.Thin.{account_val, entry_val, posted_val, sig, ended, clauses, sig₂, ended₂, clauses₂}
 
 -- the MIR of a function that lends the account that it is passed to the thin posting g
@@ -70,22 +70,6 @@ both r a = record { answer = r; account = a }
 
 both_is : (r : ℕ) (a : Account) → r < 2 ^ 8 → Is T.the_row a (account_val a ∷ []) → Is S.the_row (both r a) (posted_val (both r a) ∷ [])
 both_is r a fits is = LL.owes S.the_type S'.the_laws (both r a) ((refl, fits), (is, tt))
-
-module _ (f : Account → Entry → Posted) (g : Callee) {M : Type 1} {𝓤 : Ura M} (𝓛 : Logic 𝓤) where
-  -- a local that holds an account is what a borrow of one lends, and back
-  open 𝓛 use {H}
-
-  lies_in : (h : Account) (l : ℕ) → ent 𝓤 (sep 𝓤 (H.at full_share T'.mir l 0 (account_val h)) (sem 𝓛 ((T.the_row).own_val h (account_val h ∷ [])))) (sem 𝓛 ((mem T.the_row).own_at h l 0))
-  unfolding part_of
-  lies_in h l =
-      qed 𝓛 (‵ (fat full_share T'.mir l 0 (account_val h)) ∷ ‵ ((T.the_row).own_val h (account_val h ∷ [])) ∷ []) ∵ use1 𝓛 (‵ (cell_at full_share (T.the_row).mir (account_val h ∷ []) l 0)) (𝓛.laws.at_raw full_share T'.mir l 0 (account_val h)) $
-      fjoin ! $ fpack ! (List Val) (λ vs. fsep (cell_at full_share (T.the_row).mir vs l 0) ((T.the_row).own_val h vs)) (account_val h ∷ []) $ done !
-
-  lies_out : (h : Account) (l : ℕ) → ent 𝓤 (sem 𝓛 ((mem T.the_row).own_at h l 0)) (sep 𝓤 (H.at full_share T'.mir l 0 (account_val h)) (sem 𝓛 ((T.the_row).own_val h (account_val h ∷ []))))
-  unfolding part_of
-  lies_out h l =
-      qed 𝓛 (‵ ((mem T.the_row).own_at h l 0) ∷ []) ∵ fpick ! (λ vs. fsplit ! $ spelt ! T.the_row (Is T.the_row) (shows 𝓛 T.the_row) (LL.vals T.the_type T'.the_laws) (LL.tells T.the_type T'.the_laws) full_share h vs l 0 $
-      use1 𝓛 (‵ (fat full_share T'.mir l 0 (account_val h))) (𝓛.laws.raw_at full_share T'.mir l 0 (account_val h)) $ done !)
 
 module _ (f : Account → Entry → Posted) (g : Callee) {M : Type 1} {𝓤 : Ura M} (𝓛 : Logic 𝓤) (h : Account) (n : Entry) (is : Is T.the_row h (account_val h ∷ [])) (n-is : Is Q.the_row n (entry_val n ∷ [])) (fair : PostedIn h n) where
   -- the contract that the proof cites
@@ -132,7 +116,7 @@ module _ (f : Account → Entry → Posted) (g : Callee) {M : Type 1} {𝓤 : Ur
         assigns ! (of_opd ! (load ! (from ! (stop !)) (look ! 10 refl))) (from ! (stop !)) (init ! 6 refl ((LL.lawful T.the_type T'.the_laws 𝓛).typed h _ is).0) $
         assigns ! (addr ! (from ! (stop !))) (from ! (stop !)) (init ! 2 refl (tt, tt)) $
         -- _3 is lent for a new lifetime
-        owned ! T.the_row (Is T.the_row) (LL.makes T.the_type T'.the_plain 𝓛) h _ is $ move ! (7 ∷ 0 ∷ []) $ use2 𝓛 (‵ ((mem T.the_row).own_at h l₃ 0)) (lies_in f g 𝓛 h l₃) $
+        owned ! T.the_row (Is T.the_row) (LL.makes T.the_type T'.the_plain 𝓛) h _ is $ move ! (7 ∷ 0 ∷ []) $ use2 𝓛 (‵ ((mem T.the_row).own_at h l₃ 0)) (lies_in 𝓛 h l₃) $
         lft_new ! tt (λ α. move ! (1 ∷ []) $
         use1 𝓛 (later (some (λ (δ : GName). ‵ ((MutRef (named 0) (α ∷ []) T.the_row).own_val (x l₃ δ) (vptr l₃ 0 ∷ [])) ⊛ ‵ (flent (α ∷ []) (Body (mem T.the_row) l₃ 0 δ))))) (lends_ref 𝓛 T.the_row (named 0) (α ∷ []) h l₃ 0) $ await ! tt $ pick ! (λ δ. split ! $
         move ! (2 ∷ 0 ∷ []) $ use2 𝓛 (raw (Posts.pre (to_post α l₃ δ))) (goes_post α l₃ δ) $
@@ -146,7 +130,7 @@ module _ (f : Account → Entry → Posted) (g : Callee) {M : Type 1} {𝓤 : Ur
         land ! (from ! (stop !)) (init ! 9 refl ((uint_Lawful 𝓛 w8).typed r _ r-is).0) $ rewrite ! 9 (λ (u : Val). ‵ (fat full_share (ty_int w8) l₄ 0 u)) (ap only r-is.0) refl $
         -- the lifetime is ended, and _3 comes back at the last account
         drop ! $ lft_end ! tt $ move ! (0 ∷ 3 ∷ 2 ∷ []) $ use3 𝓛 (later (‵ ((mem T.the_row).own_at zs.0 l₃ 0))) (ref_back 𝓛 T.the_row (α ∷ []) δ zs.0 l₃ 0) $ await ! tt $
-        use1 𝓛 (‵ (fat full_share T'.mir l₃ 0 (account_val zs.0)) ⊛ ‵ ((T.the_row).own_val zs.0 (account_val zs.0 ∷ []))) (lies_out f g 𝓛 zs.0 l₃) $ split ! $
+        use1 𝓛 (‵ (fat full_share T'.mir l₃ 0 (account_val zs.0)) ⊛ ‵ ((T.the_row).own_val zs.0 (account_val zs.0 ∷ []))) (lies_out 𝓛 zs.0 l₃) $ split ! $
         move ! (1 ∷ []) $ peeks ! T.the_row (Is T.the_row) (shows 𝓛 T.the_row) zs.0 (account_val zs.0 ∷ []) (λ last-is. drop ! $
         -- [_3; true; _6; …; _5; …; _4; …; what frees _3; _2; …; _1; …; room for _0; …]
         assigns ! (of_opd ! (load ! (from ! (stop !)) (look ! 0 refl))) (from ! (stop !)) (init ! 2 refl ((LL.lawful T.the_type T'.the_laws 𝓛).typed zs.0 _ last-is).0) $

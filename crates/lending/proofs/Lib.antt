@@ -1,3 +1,4 @@
+pub mod Borrowed
 pub mod Thin
 pub mod Lender
 pub mod Returning

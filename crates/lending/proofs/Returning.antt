@@ -9,18 +9,18 @@ use base.Fraction.{full_share}
 use mir.Syntax.{Callee, Fn, named, erased, mut, ty_ref, local, value_local, memory_slot, place, copy, rv_opd, addr_of, aggregate, assign, call, seq, return}
 use mir.Val.{Val, vptr}
 use base.Logic.{SProp, ent, sep, emp, id⊢}
-use base.Fml.{GName, ftrue, fsep, fat, flft, flent}
+use base.Fml.{GName, ftrue, fat, flft, flent}
 use prog.Wp.{Calls, Loops, WpFn, Tables}
 use types.Logic.{Logic, sem}
 use contract.Monad.{fact}
-use types.Kit.{‵, raw, ◌⊛◌, some, later, ◌$◌, ◌∵◌, !, qed, by, move, keep, drop, use1, use2, use3, split, join, pick, rewrite, fsplit, fpick, fpack, fjoin, suffices, frame, await, done}
+use types.Kit.{‵, raw, ◌⊛◌, some, later, ◌$◌, ◌∵◌, !, qed, by, move, keep, drop, use1, use2, use3, split, join, pick, rewrite, fsplit, fjoin, suffices, frame, await, done}
 use types.Run.{look, init, forget, stop, from, load, addr, of_opd, and_then, no_more, assigns, land, returns, enter, alloc1, alloc0, params1, pass1, pass0, free1, free0}
 use types.Part.{agg}
 use types.Tokens.{lft_new, lft_end}
 use types.SemTy.{Body}
 use sound.WpLaws.{FmC, fm_of, WpFn-mono}
 use denote.Laws.{Is, shows}
-use denote.Memory.{mem, cell_at, part_of, pointee}
+use denote.Memory.{mem, pointee}
 use denote.Lend.{lends_ref, ref_back}
 use denote.Builtin.{unit, RefMutOf}
 use denote.RattleType.{RattleType, owns}
@@ -31,7 +31,6 @@ use denote.Param.Shared.{copy_shared}
 use denote.Struct.Field.{unit-field}
 use denote.Ref.{MutBor, MutRef}
 use denote.Steps.{only, owned, peeks, heard, nothing}
-use denote.Struct.Steps.{spelt}
 use denote.Struct.Laws as LL
 use denote.Enum.Declared.{Declared}
 use denote.Enum.Laws as EL
@@ -60,6 +59,7 @@ use Rattle.rules.specs.contracts.refusals.Refusal as N
 use Rattle.rules.proofs.refusals.Refusal.TheLaws as N'
 use Rattle.lending.specs.contracts.Returned as S
 use Rattle.lending.proofs.Returned.TheLaws as S'
+use Rattle.lending.proofs.Borrowed.{lies_in, lies_out}
 use Rattle.lending.proofs.Thin.{account_val, entry_val}
 
 -- what a posting says: nothing, or the refusal
@@ -135,22 +135,6 @@ both_is r a r-is is = LL.owes S.the_type S'.the_laws (both r a) (r-is, (is, tt))
 -- whoever holds what a posting said knows it of its machine value
 outcome_is : (r : Outcome) (v : Val) → Is outcome_row r (v ∷ []) → Is outcome_row r (outcome_val r ∷ [])
 outcome_is r v is = subst (λ vs. Is outcome_row r vs) (EL.tells outcome_type outcome_laws r (v ∷ []) is) is
-
-module _ {M : Type 1} {𝓤 : Ura M} (𝓛 : Logic 𝓤) where
-  -- a local that holds an account is what a borrow of one lends, and back
-  open 𝓛 use {H}
-
-  lies_in : (h : Account) (l : ℕ) → ent 𝓤 (sep 𝓤 (H.at full_share T'.mir l 0 (account_val h)) (sem 𝓛 ((T.the_row).own_val h (account_val h ∷ [])))) (sem 𝓛 ((mem T.the_row).own_at h l 0))
-  unfolding part_of
-  lies_in h l =
-      qed 𝓛 (‵ (fat full_share T'.mir l 0 (account_val h)) ∷ ‵ ((T.the_row).own_val h (account_val h ∷ [])) ∷ []) ∵ use1 𝓛 (‵ (cell_at full_share (T.the_row).mir (account_val h ∷ []) l 0)) (𝓛.laws.at_raw full_share T'.mir l 0 (account_val h)) $
-      fjoin ! $ fpack ! (List Val) (λ vs. fsep (cell_at full_share (T.the_row).mir vs l 0) ((T.the_row).own_val h vs)) (account_val h ∷ []) $ done !
-
-  lies_out : (h : Account) (l : ℕ) → ent 𝓤 (sem 𝓛 ((mem T.the_row).own_at h l 0)) (sep 𝓤 (H.at full_share T'.mir l 0 (account_val h)) (sem 𝓛 ((T.the_row).own_val h (account_val h ∷ []))))
-  unfolding part_of
-  lies_out h l =
-      qed 𝓛 (‵ ((mem T.the_row).own_at h l 0) ∷ []) ∵ fpick ! (λ vs. fsplit ! $ spelt ! T.the_row (Is T.the_row) (shows 𝓛 T.the_row) (LL.vals T.the_type T'.the_laws) (LL.tells T.the_type T'.the_laws) full_share h vs l 0 $
-      use1 𝓛 (‵ (fat full_share T'.mir l 0 (account_val h))) (𝓛.laws.raw_at full_share T'.mir l 0 (account_val h)) $ done !)
 
 module _ (f : Account → Entry → Posted) (g : Callee) {M : Type 1} {𝓤 : Ura M} (𝓛 : Logic 𝓤) (h : Account) (n : Entry) (is : Is T.the_row h (account_val h ∷ [])) (n-is : Is Q.the_row n (entry_val n ∷ [])) (fair : PostedIn h n) where
   -- the contract that the proof cites
